@@ -1,0 +1,4 @@
+pub mod Checksum
+pub mod Requests
+pub mod RoundTrip
+pub mod Stores

@@ -1,0 +1,114 @@
+-- What is known of a request: its words are words, and its count is one that Modbus allows. Assumes nothing.
+use mathlib.Core.Path.{_≡_, refl}
+use mathlib.Core.Bool.{Bool, true, false, cond}
+use mathlib.Core.List.{List}
+use Prim.Native.Nat.{ℕ, _+_, _*_, _≤_, _<_}
+use native.Mathlib.Omega.{arith}
+use borrow.Author.Tests.{ltb-false}
+use lib.Dec.{ltb, eqb, lit<, lit≤}
+use lib.ListN.{length, getD}
+use Rattle.modbus.specs.Bytes.{Bytes, wordAt}
+use Rattle.modbus.specs.Request.{functionOf, readOf, writeOneOf, secondOf, writeManyOf, writeMaskOf, requestOf}
+use Rattle.modbus.specs.declared.request.Request.{Request}
+use Rattle.modbus.specs.declared.request.Request.the-variants.{Unsupported, Malformed, Read, Write, Mask}
+
+abbrev Word : ℕ → Type 0
+Word n = n < 65536
+
+pub record ReadInRange (start count : ℕ) : Type 0 where
+  pub start-word : Word start
+  pub least : 1 ≤ count
+  pub most : count ≤ 125
+
+pub record WriteInRange (start count first second : ℕ) : Type 0 where
+  pub start-word : Word start
+  pub least : 1 ≤ count
+  pub most : count ≤ 123
+  pub first-word : Word first
+  pub second-word : Word second
+
+pub record MaskInRange (register andMask orMask : ℕ) : Type 0 where
+  pub register-word : Word register
+  pub and-word : Word andMask
+  pub or-word : Word orMask
+
+abbrev pub InRange : Request → Type 0
+InRange Unsupported = Unit {0}
+InRange Malformed = Unit {0}
+InRange (Read start count) = ReadInRange start count
+InRange (Write start count first second) = WriteInRange start count first second
+InRange (Mask register andMask orMask) = MaskInRange register andMask orMask
+
+either : (b : Bool) (x y : Request) → (b ≡ true → InRange x) → (b ≡ false → InRange y) → InRange (cond b x y)
+either true x y f g = f refl
+either false x y f g = g refl
+
+module _ (s : List ℕ) (bytes : Bytes s) where
+  word : (i : ℕ) → Word (wordAt s i)
+  word i = omega (arith, bytes .below i, bytes .below (i + 1))
+
+  pick : (b : Bool) (m n : ℕ) → Word m → Word n → Word (cond b m n)
+  pick true m n hm hn = hm
+  pick false m n hm hn = hn
+
+  second : Word (secondOf s)
+  unfolding secondOf
+  second = pick (ltb (length s) 11) 0 (wordAt s 9) (lit< tt) (word 9)
+
+  read : InRange (readOf s)
+  unfolding readOf
+  read =
+      either (eqb (length s) 6) _ Malformed
+      (λ six.
+      either (ltb (wordAt s 4) 1) Malformed _ (λ t. tt)
+      (λ least.
+      either (ltb 125 (wordAt s 4)) Malformed (Read (wordAt s 2) (wordAt s 4)) (λ t. tt)
+      (λ most. record { start-word = word 2; least = ltb-false (wordAt s 4) 1 least; most = ltb-false 125 (wordAt s 4) most })))
+      (λ t. tt)
+
+  write-one : InRange (writeOneOf s)
+  unfolding writeOneOf
+  write-one =
+      either (eqb (length s) 6) (Write (wordAt s 2) 1 (wordAt s 4) 0) Malformed
+      (λ six. record { start-word = word 2; least = lit≤ tt; most = lit≤ tt; first-word = word 4; second-word = lit< tt }) (λ t. tt)
+
+  write-many : InRange (writeManyOf s)
+  unfolding writeManyOf
+  write-many =
+      let w = Write (wordAt s 2) (wordAt s 4) (wordAt s 7) (secondOf s) in
+      either (ltb (length s) 9) Malformed _ (λ t. tt)
+      (λ nine.
+      either (ltb (wordAt s 4) 1) Malformed _ (λ t. tt)
+      (λ least.
+      either (ltb 123 (wordAt s 4)) Malformed _ (λ t. tt)
+      (λ most.
+      either (eqb (getD s 6 0) (2 * wordAt s 4)) _ Malformed
+      (λ size.
+      either (eqb (length s) (7 + getD s 6 0)) w Malformed
+      (λ long.
+      record {
+        start-word = word 2;
+        least = ltb-false (wordAt s 4) 1 least;
+        most = ltb-false 123 (wordAt s 4) most;
+        first-word = word 7;
+        second-word = second;
+      })
+      (λ t. tt))
+      (λ t. tt))))
+
+  write-mask : InRange (writeMaskOf s)
+  unfolding writeMaskOf
+  write-mask =
+      either (eqb (length s) 8) (Mask (wordAt s 2) (wordAt s 4) (wordAt s 6)) Malformed
+      (λ eight. record { register-word = word 2; and-word = word 4; or-word = word 6 }) (λ t. tt)
+
+  -- whatever a body of bytes asks for is in range
+  pub in-range : InRange (requestOf s)
+  unfolding requestOf
+  in-range =
+      either (eqb (functionOf s) 3) (readOf s) _ (λ t. read)
+      (λ t.
+      either (eqb (functionOf s) 6) (writeOneOf s) _ (λ u. write-one)
+      (λ u.
+      either (eqb (functionOf s) 16) (writeManyOf s) _ (λ v. write-many)
+      (λ v. either (eqb (functionOf s) 22) (writeMaskOf s) Unsupported (λ w. write-mask) (λ w. tt))))

@@ -1,0 +1,5 @@
+pub mod Bytes
+pub mod Crc
+pub mod Rtu
+pub mod Request
+pub mod Reply

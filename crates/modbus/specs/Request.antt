@@ -1,0 +1,69 @@
+-- What a body asks for. Document 01, "Frames" and "What is sent back", codes 1 and 3: lengths as Modbus has them, counts 1..125 (read)
+-- and 1..123 (16). Which registers exist is another layer's matter. Assumes nothing.
+use mathlib.Core.Bool.{cond}
+use mathlib.Core.List.{List}
+use Prim.Native.Nat.{ℕ, _+_, _-_, _*_}
+use lib.Bits.{bitAnd, bitOr}
+use lib.Dec.{ltb, eqb}
+use lib.ListN.{length, getD}
+use Rattle.modbus.specs.Bytes.{wordAt}
+use Rattle.modbus.specs.declared.request.Request.{Request}
+use Rattle.modbus.specs.declared.request.Request.the-variants.{Unsupported, Malformed, Read, Write, Mask}
+
+-- the first two bytes of a body; one that isn't sent counts as 0
+abbrev pub addressOf : List ℕ → ℕ
+addressOf body = getD body 0 0
+
+abbrev pub functionOf : List ℕ → ℕ
+functionOf body = getD body 1 0
+
+-- "count not 1..most" is malformed
+abbrev counted : ℕ → ℕ → Request → Request
+counted most n r = cond (ltb n 1) Malformed (cond (ltb most n) Malformed r)
+
+-- function 3: address, 3, start, count
+unfoldable pub readOf : List ℕ → Request
+readOf s = cond (eqb (length s) 6) (counted 125 (wordAt s 4) (Read (wordAt s 2) (wordAt s 4))) Malformed
+
+-- function 6: address, 6, register, value
+unfoldable pub writeOneOf : List ℕ → Request
+writeOneOf s = cond (eqb (length s) 6) (Write (wordAt s 2) 1 (wordAt s 4) 0) Malformed
+
+-- the second of the values of function 16; with one value there is none
+unfoldable pub secondOf : List ℕ → ℕ
+secondOf s = cond (ltb (length s) 11) 0 (wordAt s 9)
+
+-- function 16: address, 16, start, count, byte count = 2 × count, then that many bytes, at least two. A field has at most two words, so the
+-- first two values are all that a layer above can want.
+unfoldable pub writeManyOf : List ℕ → Request
+writeManyOf s =
+    cond (ltb (length s) 9) Malformed
+    (counted 123 (wordAt s 4)
+    (cond (eqb (getD s 6 0) (2 * wordAt s 4))
+    (cond (eqb (length s) (7 + getD s 6 0)) (Write (wordAt s 2) (wordAt s 4) (wordAt s 7) (secondOf s)) Malformed)
+    Malformed))
+
+-- function 22: address, 22, register, and-mask, or-mask
+unfoldable pub writeMaskOf : List ℕ → Request
+writeMaskOf s = cond (eqb (length s) 8) (Mask (wordAt s 2) (wordAt s 4) (wordAt s 6)) Malformed
+
+-- "Functions 3, 6, 16, 22"; code 1 before any look at the length
+unfoldable pub requestOf : List ℕ → Request
+requestOf s =
+    cond (eqb (functionOf s) 3) (readOf s)
+    (cond (eqb (functionOf s) 6) (writeOneOf s)
+    (cond (eqb (functionOf s) 16) (writeManyOf s)
+    (cond (eqb (functionOf s) 22) (writeMaskOf s)
+    Unsupported)))
+
+-- document 01's code for each request that is refused here; 0 is no refusal
+abbrev pub codeOf : Request → ℕ
+codeOf Unsupported = 1
+codeOf Malformed = 3
+codeOf (Read start count) = 0
+codeOf (Write start count first second) = 0
+codeOf (Mask register andMask orMask) = 0
+
+-- "(old and A) or (B and not A)"; of a word, not A is 0xFFFF - A
+unfoldable pub maskedOf : ℕ → ℕ → ℕ → ℕ
+maskedOf old a b = bitOr (bitAnd old a) (bitAnd b (0xFFFF - a))
