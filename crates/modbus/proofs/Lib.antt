@@ -1,4 +1,3 @@
-pub mod Checksum
+pub mod Replies
 pub mod Requests
-pub mod RoundTrip
 pub mod Stores

@@ -7,7 +7,7 @@ use native.Mathlib.Omega.{arith}
 use borrow.Author.Tests.{ltb-false}
 use lib.Dec.{ltb, eqb, lit<, lit≤}
 use lib.ListN.{length, getD}
-use Rattle.modbus.specs.Bytes.{Bytes, wordAt}
+use Rattle.rtu.specs.Bytes.{Bytes, wordAt}
 use Rattle.modbus.specs.Request.{functionOf, readOf, writeOneOf, secondOf, writeManyOf, writeMaskOf, requestOf}
 use Rattle.modbus.specs.declared.request.Request.{Request}
 use Rattle.modbus.specs.declared.request.Request.the-variants.{Unsupported, Malformed, Read, Write, Mask}

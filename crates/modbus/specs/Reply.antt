@@ -1,11 +1,11 @@
 -- Replies, byte for byte. Document 01, "Frames", and the public standard: 6 and 22 answer with the request, 16 with start and count.
 -- Assumes nothing.
-use mathlib.Core.List.{List, [], _∷_, _++_}
+use mathlib.Core.List.{List, [], _∷_}
 use Prim.Native.Nat.{ℕ, _*_, _/_, _%_}
 use lib.Bits.{bitOr}
-use lib.ListN.{length, drop}
-use Rattle.modbus.specs.Bytes.{bytesOf}
-use Rattle.modbus.specs.Rtu.{framed}
+use lib.ListN.{length}
+use Rattle.rtu.specs.Bytes.{bytesOf}
+use Rattle.rtu.specs.Frame.{framed}
 
 -- the bodies of replies, which any framing carries
 
@@ -39,7 +39,3 @@ writeReply address start count = framed (writeBody address start count)
 
 unfoldable pub exceptionReply : ℕ → ℕ → ℕ → List ℕ
 exceptionReply address function code = framed (exceptionBody address function code)
-
--- "Reply bytes past the reply's length stay": what a buffer holds once a reply is written over its start
-unfoldable pub overlay : List ℕ → List ℕ → List ℕ
-overlay reply buffer = reply ++ drop (length reply) buffer

@@ -6,7 +6,7 @@ use Prim.Native.Nat.{ℕ, _+_, _-_, _*_}
 use lib.Bits.{bitAnd, bitOr}
 use lib.Dec.{ltb, eqb}
 use lib.ListN.{length, getD}
-use Rattle.modbus.specs.Bytes.{wordAt}
+use Rattle.rtu.specs.Bytes.{wordAt}
 use Rattle.modbus.specs.declared.request.Request.{Request}
 use Rattle.modbus.specs.declared.request.Request.the-variants.{Unsupported, Malformed, Read, Write, Mask}
 

@@ -1,25 +1,13 @@
 // Replies with their checksum, written into a lent buffer. Bytes past a reply stay as they were.
 ghost use mathlib.Core.Path.{_≡_};
 ghost use Prim.Native.Nat.{_+_, _*_, _≤_};
-ghost use lib.ListN.{length, take};
+ghost use lib.ListN.{length};
 ghost use lib.Seq.{sets};
-ghost use Rattle.modbus.specs.Bytes.{bytesOf};
-ghost use Rattle.modbus.specs.Rtu.{checksumOf};
-ghost use Rattle.modbus.specs.Reply.{marked as markedOf, readReply, echoReply, writeReply, exceptionReply, overlay};
-use crate::bytes;
-use crate::crc::crc16;
-
-// The checksum of the first n bytes behind them; gives the frame's length.
-fn seal(reply: &mut [u8], n: usize) -> u16
-    requires { ⌜ (n ≤ 254) × (n + 2 ≤ length (now reply)) ⌝ }
-    ensures { λ r. ⌜ r ≡ n + 2 ⌝ }
-    ensures { λ _. ⌜ now (reply .exit) ≡ sets (now (reply .entry)) n (checksumOf (take n (now (reply .entry)))) ⌝ }
-{
-    let crc = crc16(&reply[..n]);
-    reply[n] = bytes::low(crc);
-    reply[n + 1] = bytes::high(crc);
-    (n + 2) as u16
-}
+ghost use Rattle.rtu.specs.Bytes.{bytesOf};
+ghost use Rattle.rtu.specs.Frame.{overlay};
+ghost use Rattle.modbus.specs.Reply.{marked as markedOf, readReply, echoReply, writeReply, exceptionReply};
+use rtu::bytes;
+use rtu::frame::seal;
 
 // Words from byte 3 on.
 fn put_words(reply: &mut [u8], words: &[u16])

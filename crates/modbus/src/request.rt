@@ -1,7 +1,7 @@
 // What a body asks for: functions 3, 6, 16 and 22.
 ghost use mathlib.Core.Path.{_≡_};
 ghost use Rattle.modbus.specs.Request.{addressOf, functionOf, requestOf, readOf, writeOneOf, writeManyOf, writeMaskOf, secondOf, codeOf, maskedOf};
-use crate::bytes;
+use rtu::bytes;
 
 pub enum Request {
     // Another function.

@@ -2,7 +2,7 @@
 use mathlib.Core.Path.{refl, sym, _∙_}
 use lib.ListN.{length}
 use Rattle.modbus.specs.Reply.{echoReply}
-use Rattle.modbus.proofs.Stores.{framed-length, sealed}
+use Rattle.rtu.proofs.Stores.{framed-length, sealed}
 use borrow.Author.Needs.{needs}
 use Rattle.modbus.proofs.reply.put_echo.Statement.{statement}
 use Rattle.modbus.proofs.reply.put_echo.Tie as tie

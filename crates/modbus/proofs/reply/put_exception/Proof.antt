@@ -1,7 +1,7 @@
 -- `modbus::reply::put_exception` meets its contract: three stores make the body, and the seal makes the frame. Assumes nothing.
 use mathlib.Core.List.{[], _∷_}
 use Rattle.modbus.specs.Reply.{exceptionReply, exceptionBody, marked}
-use Rattle.modbus.proofs.Stores.{framed-length, sealed}
+use Rattle.rtu.proofs.Stores.{framed-length, sealed}
 use native.Mathlib.Omega.{arith}
 use mathlib.Core.Path.{refl, sym, _∙_}
 use lib.ListN.{length-set}

@@ -4,7 +4,8 @@ use Prim.Native.Nat.{_+_, _*_}
 use native.Mathlib.Omega.{arith}
 use lib.ListN.{length, length-set}
 use Rattle.modbus.specs.Reply.{readReply, readBody}
-use Rattle.modbus.proofs.Stores.{bytes-length, framed-length, sealed}
+use Rattle.rtu.proofs.Stores.{framed-length, sealed}
+use Rattle.modbus.proofs.Stores.{bytes-length}
 use borrow.Author.Needs.{needs}
 use Rattle.modbus.proofs.reply.put_read.Statement.{statement}
 use Rattle.modbus.proofs.reply.put_read.Tie as tie

@@ -5,7 +5,7 @@ use Prim.Native.Nat.{_≤_, _-_}
 use native.Mathlib.Omega.{arith}
 use lib.ListN.{length, length-set, take}
 use lib.Seq.{sets, take-length}
-use Rattle.modbus.specs.Bytes.{bytesOf}
+use Rattle.rtu.specs.Bytes.{bytesOf}
 use Rattle.modbus.proofs.Stores.{word-more}
 use Rattle.modbus.proofs.reply.put_words.Statement.{statement}
 use Rattle.modbus.proofs.reply.put_words.Tie as tie

@@ -2,7 +2,7 @@
 use mathlib.Core.List.{[], _∷_}
 use Prim.Native.Nat.{_/_, _%_}
 use Rattle.modbus.specs.Reply.{writeReply, writeBody}
-use Rattle.modbus.proofs.Stores.{framed-length, sealed}
+use Rattle.rtu.proofs.Stores.{framed-length, sealed}
 use native.Mathlib.Omega.{arith}
 use mathlib.Core.Path.{refl, sym, _∙_}
 use lib.ListN.{length-set}
