@@ -1,0 +1,13 @@
+-- `calibration::coefficients::Calibration::same_bits` meets its contract: the coefficients and the time are compared. Assumes nothing.
+use Rattle.calibration.specs.Coefficients.{sameCalibration}
+use borrow.Author.Needs.{needs}
+use Rattle.calibration.proofs.coefficients.Calibration.same_bits.Statement.{statement}
+use Rattle.calibration.proofs.coefficients.Calibration.same_bits.Tie as tie
+
+returns : tie.Need-returns
+unfolding sameCalibration
+returns c = cc
+
+pub same-bits-spec : {M : Type 1} → statement M
+same-bits-spec =
+    tie.close (tie.spec (λ c κs. search needs) (λ c κs. search needs) (λ c κs. search needs) returns)
