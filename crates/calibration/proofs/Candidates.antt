@@ -4,7 +4,7 @@ use mathlib.Core.Bool.{Bool, true, false, cond}
 use Prim.Native.Nat.{ℕ, zero, suc, _≤_}
 use native.Mathlib.Omega.{arith}
 use lib.Dec.{T, eqb}
-use lib.Ieee.{Float, binary32, fits, sub, mul, div, eq}
+use lib.Ieee.{binary32, fits, sub, mul, div, eq}
 use lib.Ieee.Bits.{ofBits-fits}
 use lib.Ieee.Fits.{sub-fits, div-fits}
 use Rattle.calibration.specs.Floats.{plusZero}

@@ -11,8 +11,7 @@ use lib.Ieee.Bits.{is-true, ofBits-toBits, ofBits-fits, toBits-lt, toBits-ofBits
 use lib.Ieee.Compare.{differs-from-itself}
 use borrow.Author.Tests.{eq-eqb, ne-eqb, eqb-true}
 use Rattle.calibration.specs.Floats.{plusZero, finite, pattern, floatOf, highWord, lowWord, sameBits, isPlusZero}
-use Rattle.calibration.specs.Coefficients.{coefficients, calibrationOf, coefficientsOf, sameCoefficients, sameCalibration}
-use Rattle.calibration.specs.declared.floats.FloatOf.{FloatOf}
+use Rattle.calibration.specs.Coefficients.{coefficients, allFinite, calibrationOf, coefficientsOf, sameCoefficients, sameCalibration}
 use Rattle.calibration.specs.declared.floats.FloatOf.the-variants.{Finite, NotFinite}
 use Rattle.calibration.specs.declared.coefficients.Coefficients.{Coefficients}
 use Rattle.calibration.specs.declared.coefficients.Calibration.{Calibration}
@@ -163,6 +162,22 @@ same-bits-refl x = eq-eqb (toBits binary32 x) (toBits binary32 x) refl
 pub plus-zero : (x : Float) → T (fits binary32 x) → isPlusZero x ≡ true → x ≡ plusZero
 unfolding isPlusZero
 plus-zero x f e = sym (ofBits-toBits binary32 x f) ∙ ap (ofBits binary32) (eqb-true (toBits binary32 x) 0 e)
+
+-- ---- coefficients
+
+-- coefficients each of which is finite
+pub record CoefficientsFinite (c : Coefficients) : Type 0 where
+  pub finite-first : T (finite (c .first))
+  pub finite-second : T (finite (c .second))
+  pub finite-third : T (finite (c .third))
+
+-- finite coefficients are finite each
+pub each-finite : (c : Coefficients) → allFinite c ≡ true → CoefficientsFinite c
+unfolding allFinite
+each-finite c e =
+    let t = both (finite (c .first) && finite (c .second)) (finite (c .third)) e in
+    let u = both (finite (c .first)) (finite (c .second)) (t .0) in
+    record { finite-first = rw (u .0) tt; finite-second = rw (u .1) tt; finite-third = rw (t .1) tt }
 
 -- coefficients that fit the format
 pub record CoefficientsFit (c : Coefficients) : Type 0 where

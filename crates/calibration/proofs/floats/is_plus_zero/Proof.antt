@@ -6,7 +6,7 @@ use Rattle.calibration.proofs.floats.is_plus_zero.Tie as tie
 
 returns : tie.Need-returns
 unfolding isPlusZero
-returns c = cc
+returns c = simp (c .bits-of .ensures)
 
 pub is-plus-zero-spec : {M : Type 1} → statement M
 is-plus-zero-spec = tie.close (tie.spec (λ c κs. search needs) returns)

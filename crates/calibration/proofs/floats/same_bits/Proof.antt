@@ -6,7 +6,7 @@ use Rattle.calibration.proofs.floats.same_bits.Tie as tie
 
 returns : tie.Need-returns
 unfolding sameBits
-returns c = cc
+returns c = simp (c .before .bits-of .ensures, c .bits-of2 .ensures)
 
 pub same-bits-spec : {M : Type 1} → statement M
 same-bits-spec = tie.close (tie.spec (λ c κs. search needs) (λ c κs. search needs) returns)
