@@ -96,6 +96,7 @@ MethodFits (Direct a b c) = T (fits binary32 a) × T (fits binary32 b) × T (fit
 MethodFits (OnePoint x1 y1) = T (fits binary32 x1) × T (fits binary32 y1)
 MethodFits (TwoPoints x1 y1 x2 y2) = T (fits binary32 x1) × T (fits binary32 y1) × T (fits binary32 x2) × T (fits binary32 y2)
 
+-- a candidate, where there is one, that fits the format
 abbrev pub CandidateFits : Candidate → Type 0
 CandidateFits (Made c) = CoefficientsFit c
 CandidateFits ZeroX = Unit {0}

@@ -136,11 +136,12 @@ pub float-and-back : (high low : ℕ) (x : Float) → high < 65536 → low < 655
 unfolding highWord lowWord
 float-and-back high low x hh hl e = let b : toBits binary32 x ≡ pattern high low = bits-of high low x hh hl e in (omega arith, omega arith)
 
--- a float's words are words
+-- the high word of a float of the format is a word
 pub high-word-lt : (x : Float) → T (fits binary32 x) → highWord x < 65536
 unfolding highWord
 high-word-lt x f = let l : toBits binary32 x < 4294967296 = toBits-lt binary32 x f in omega arith
 
+-- so is the low word, of any float
 pub low-word-lt : (x : Float) → lowWord x < 65536
 unfolding lowWord
 low-word-lt x = omega arith
@@ -197,6 +198,7 @@ same-coefficients c d fc fd e =
     let k : coefficients (c .first) (c .second) (c .third) ≡ coefficients (d .first) (d .second) (d .third) = cc in
     k
 
+-- coefficients have their own bits
 pub same-coefficients-refl : (c : Coefficients) → sameCoefficients c c ≡ true
 unfolding sameCoefficients
 same-coefficients-refl c = simp same-bits-refl
@@ -209,6 +211,7 @@ same-calibration c d fc fd e =
     let x : coefficientsOf c ≡ coefficientsOf d = same-coefficients (coefficientsOf c) (coefficientsOf d) fc fd (t .0) in
     ap₂ calibrationOf x (eqb-true (c .time) (d .time) (t .1))
 
+-- a calibration has its own bits
 pub same-calibration-refl : (c : Calibration) → sameCalibration c c ≡ true
 unfolding sameCalibration
 same-calibration-refl c = rw (same-coefficients-refl (coefficientsOf c)) (eq-eqb (c .time) (c .time) refl)
