@@ -1,5 +1,5 @@
 -- The methods of calibration and the verdict on an update. Document 01, "Calibration", 0xE001. Assumes nothing.
-use mathlib.Core.Bool.{Bool, true, false, cond}
+use mathlib.Core.Bool.{cond}
 use Prim.Native.Nat.{ℕ}
 use lib.Dec.{eqb}
 use lib.Ieee.{Float, binary32, sub, mul, div, eq}

@@ -1,0 +1,4 @@
+pub mod Bools
+pub mod Words
+pub mod Limits
+pub mod Candidates
