@@ -6,11 +6,11 @@ use native.Mathlib.Omega.{arith}
 use lib.Dec.{T, eqb, leb, lit≤}
 use lib.Bits.{bitAnd, bitOr, and-high, or-shifted}
 use lib.Pow.{shl-exact}
-use lib.Ieee.{Float, nan, inf, fin, binary32, fits, isNan, eq, ne, odd, ofFields, ofBits, toBits, nanBits}
+use lib.Ieee.{Float, nan, inf, fin, binary32, fits, isNan, eq, ne, odd, ofFields, round, ofBits, toBits, nanBits}
 use lib.Ieee.Bits.{is-true, ofBits-toBits, ofBits-fits, toBits-lt, toBits-ofBits, nanBits-is}
 use lib.Ieee.Compare.{differs-from-itself}
 use borrow.Author.Tests.{eq-eqb, ne-eqb, eqb-true}
-use Rattle.calibration.specs.Floats.{plusZero, finite, pattern, floatOf, highWord, lowWord, sameBits, isPlusZero}
+use Rattle.calibration.specs.Floats.{near, plusZero, finite, pattern, floatOf, highWord, lowWord, sameBits, isPlusZero}
 use Rattle.calibration.specs.Coefficients.{coefficients, allFinite, calibrationOf, coefficientsOf, sameCoefficients, sameCalibration}
 use Rattle.calibration.specs.declared.floats.FloatOf.the-variants.{Finite, NotFinite}
 use Rattle.calibration.specs.declared.coefficients.Coefficients.{Coefficients}
@@ -130,6 +130,11 @@ bits-of high low x hh hl e =
     let i : ofBits binary32 (pattern high low) ≡ x = float-of-is high low x e in
     let n : T (not (isNan (ofBits binary32 (pattern high low)))) = rw i (finite-is-no-nan x (rw (float-of-finite high low x e) tt)) in
     rw (← i, toBits-ofBits binary32 (pattern high low) l n)
+
+-- "1.0 is 0x3F80 0x0000"
+pub one-in-words : (highWord (near 1 1) ≡ 0x3F80) × (lowWord (near 1 1) ≡ 0)
+unfolding highWord lowWord near round toBits
+one-in-words = (refl, refl)
 
 -- a float's words are those that it was read from
 pub float-and-back : (high low : ℕ) (x : Float) → high < 65536 → low < 65536 → floatOf high low ≡ Finite x → (highWord x ≡ high) × (lowWord x ≡ low)

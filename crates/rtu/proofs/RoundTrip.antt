@@ -1,12 +1,13 @@
 -- The RTU check passes a body with its own checksum, and nothing else: a frame is good exactly where it is the frame of its body and
 -- has 4 to 256 bytes. Assumes nothing.
-use mathlib.Core.Path.{_≡_, refl, sym, ap, ap₂, _∙_, subst}
-use mathlib.Core.Bool.{Bool, true, false, _&&_}
+use mathlib.Core.Path.{_≡_, refl, sym, ap, ap₂, _∙_}
+use mathlib.Core.Bool.{Bool, true, _&&_}
 use mathlib.Core.List.{List, [], _∷_, _++_}
 use Prim.Native.Nat.{ℕ, suc, _+_, _-_, _/_, _%_, _≤_, _<_}
 use native.Mathlib.Omega.{arith}
-use borrow.Author.Tests.{eq-eqb, le-leb, leb-true, eqb-true}
-use lib.Dec.{T, leb}
+use borrow.Author.Tests.{eq-eqb, le-leb}
+use lib.Dec.{T, leb, eqb, leb→le, eqb→eq}
+use lib.Ieee.Fits.{and-l, and-r}
 use lib.ListN.{length, getD, take, drop, take-append-drop}
 use lib.Seq.{take-at, getD-append-add, drop-cons, drop-length}
 use Rattle.rtu.specs.Bytes.{Bytes, wordOf}
@@ -46,12 +47,6 @@ framed-is-good b h₂ h₂₅₄ =
     ap crcOf (body-of-framed b) ∙ sum ∙ sym (ap₂ wordOf high low) in
     rw (four, most, eq-eqb _ _ sent)
 
-and-parts : (a b c : Bool) → (a && b && c) ≡ true → (a ≡ true) × (b ≡ true) × (c ≡ true)
-and-parts true true true h = (refl, refl, refl)
-and-parts true true false h = absurd (subst T (sym h) tt)
-and-parts true false c h = absurd (subst T (sym h) tt)
-and-parts false b c h = absurd (subst T (sym h) tt)
-
 -- a list without its last two elements, then these
 last-two : (s : List ℕ) → 2 ≤ length s → s ≡ take (length s - 2) s ++ (getD s (length s - 2) 0 ∷ getD s (length s - 1) 0 ∷ [])
 last-two s h =
@@ -74,10 +69,14 @@ pub record Good (s : List ℕ) : Type 0 where
 pub good-is-framed : (s : List ℕ) → Bytes s → isGood s ≡ true → Good s
 unfolding isGood framed checksumOf bodyOf
 good-is-framed s bytes h =
-    let parts = and-parts (leb 4 (length s)) (leb (length s) 256) _ h in
-    let least : 4 ≤ length s = leb-true _ _ (parts .0) in
-    let most : length s ≤ 256 = leb-true _ _ (parts .1) in
-    let sum : crcOf (bodyOf s) ≡ wordOf (getD s (length s - 1) 0) (getD s (length s - 2) 0) = eqb-true _ _ (parts .2) in
+    let sent : ℕ = wordOf (getD s (length s - 1) 0) (getD s (length s - 2) 0) in
+    let a : Bool = leb 4 (length s) in
+    let b : Bool = leb (length s) 256 in
+    let c : Bool = eqb (crcOf (bodyOf s)) sent in
+    let t : T (a && b && c) = rw h tt in
+    let least : 4 ≤ length s = leb→le 4 (length s) (and-l a b (and-l (a && b) c t)) in
+    let most : length s ≤ 256 = leb→le (length s) 256 (and-r a b (and-l (a && b) c t)) in
+    let sum : crcOf (bodyOf s) ≡ sent = eqb→eq (crcOf (bodyOf s)) sent (and-r (a && b) c t) in
     let small : getD s (length s - 2) 0 < 256 = bytes .below (length s - 2) in
     let low : getD s (length s - 2) 0 ≡ crcOf (bodyOf s) % 256 = omega arith in
     let high : getD s (length s - 1) 0 ≡ crcOf (bodyOf s) / 256 = omega arith in
