@@ -1,0 +1,2 @@
+-- What the proofs of `vectors` share. Assumes nothing.
+pub mod Ranges

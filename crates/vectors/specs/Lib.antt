@@ -1,0 +1,2 @@
+-- The definitions that the contracts of `vectors` cite. Assumes nothing.
+pub mod Text
