@@ -3,7 +3,7 @@ use mathlib.Core.Bool.{cond}
 use Prim.Native.Nat.{ℕ}
 use lib.Dec.{eqb}
 use lib.Ieee.{Float, binary32, sub, mul, div, eq}
-use Rattle.calibration.specs.Floats.{plusZero}
+use Rattle.floats.specs.Floats.{plusZero}
 use Rattle.calibration.specs.Coefficients.{coefficients, allFinite, inLimits}
 use Rattle.calibration.specs.declared.coefficients.Coefficients.{Coefficients}
 use Rattle.calibration.specs.declared.methods.Points.{Points}

@@ -9,8 +9,8 @@ use lib.Dec.{ltb, eqb, lit<, lit≤}
 use lib.ListN.{length, getD}
 use Rattle.rtu.specs.Bytes.{Bytes, wordAt}
 use Rattle.modbus.specs.Request.{functionOf, readOf, writeOneOf, secondOf, writeManyOf, writeMaskOf, requestOf}
-use Rattle.modbus.specs.declared.request.Request.{Request}
-use Rattle.modbus.specs.declared.request.Request.the-variants.{Unsupported, Malformed, Read, Write, Mask}
+use Rattle.modbus.specs.declared.Request.{Request}
+use Rattle.modbus.specs.declared.Request.the-variants.{Unsupported, Malformed, Read, Write, Mask}
 
 abbrev Word : ℕ → Type 0
 Word n = n < 65536

@@ -7,8 +7,8 @@ use lib.Bits.{bitAnd, bitOr}
 use lib.Dec.{ltb, eqb}
 use lib.ListN.{length, getD}
 use Rattle.rtu.specs.Bytes.{wordAt}
-use Rattle.modbus.specs.declared.request.Request.{Request}
-use Rattle.modbus.specs.declared.request.Request.the-variants.{Unsupported, Malformed, Read, Write, Mask}
+use Rattle.modbus.specs.declared.Request.{Request}
+use Rattle.modbus.specs.declared.Request.the-variants.{Unsupported, Malformed, Read, Write, Mask}
 
 -- the first two bytes of a body; one that isn't sent counts as 0
 abbrev pub addressOf : List ℕ → ℕ

@@ -2,7 +2,7 @@
 use mathlib.Core.Path.{refl}
 use lib.Ieee.{ofBits, toBits, round, sub, mul, div, le, eq}
 use Rattle.rtu.specs.Crc.{crcBit, crcBits, crcByte, crcFrom, crcOf}
-use Rattle.calibration.specs.Floats.{near, minus, finite, isPlusZero}
+use Rattle.floats.specs.Floats.{near, minus, finite, isPlusZero}
 use Rattle.calibration.specs.Coefficients.{allFinite, inLimits}
 use Rattle.calibration.specs.Methods.{candidateOf, verdictOf, judgedOf}
 use Rattle.starred.specs.Starred.{Starred, worked, told}

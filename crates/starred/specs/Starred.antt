@@ -5,7 +5,7 @@ use mathlib.Core.List.{List, [], _∷_}
 use Prim.Native.Nat.{ℕ}
 use lib.Ieee.{Float, binary32, ofBits, toBits}
 use Rattle.rtu.specs.Crc.{crcOf}
-use Rattle.calibration.specs.Floats.{near, plusZero}
+use Rattle.floats.specs.Floats.{near, plusZero}
 use Rattle.calibration.specs.Methods.{candidateOf, judgedOf, codeOf}
 use Rattle.calibration.specs.declared.coefficients.Coefficients.{Coefficients}
 use Rattle.calibration.specs.declared.methods.Method.the-variants.{Direct, OnePoint, TwoPoints}

@@ -1,0 +1,12 @@
+-- `replies::marked` meets its contract: by the definition. Assumes nothing.
+use borrow.Author.Needs.{needs}
+use Rattle.replies.specs.Reply.{marked}
+use Rattle.replies.proofs.marked.Statement.{statement}
+use Rattle.replies.proofs.marked.Tie as tie
+
+returns : tie.Need-returns
+unfolding marked
+returns c = search needs
+
+pub marked-spec : {M : Type 1} → statement M
+marked-spec = tie.close (tie.spec returns)
