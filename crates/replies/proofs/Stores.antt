@@ -18,11 +18,13 @@ byte-more v s i h =
     ∙ sets-append v 0 (take i s) (getD s i 0 ∷ [])
     ∙ ap (λ (k : ℕ). set (sets v 0 (take i s)) k (getD s i 0)) n)
 
+-- the bytes of two lists of words, one behind the other
 bytes-append : (xs ys : List ℕ) → bytesOf (xs ++ ys) ≡ bytesOf xs ++ bytesOf ys
 unfolding bytesOf
 bytes-append [] ys = refl
 bytes-append (x ∷ xs) ys = ap (λ (l : List ℕ). x / 256 ∷ x % 256 ∷ l) (bytes-append xs ys)
 
+-- a word is two bytes
 pub bytes-length : (ws : List ℕ) → length (bytesOf ws) ≡ 2 * length ws
 unfolding bytesOf
 bytes-length [] = refl
