@@ -1,0 +1,94 @@
+-- The map of registers as one table of fields. Document 01, "Register map". Assumes nothing.
+use mathlib.Core.Bool.{Bool, true, false, _&&_, cond}
+use mathlib.Core.List.{List, [], _∷_}
+use Prim.Native.Nat.{ℕ, zero, suc, _+_, _-_, _*_, _/_, _%_}
+use lib.Dec.{eqb, leb, ltb}
+use Rattle.fields.specs.declared.Field.{Field}
+use Rattle.fields.specs.declared.Found.{Found}
+use Rattle.fields.specs.declared.Found.the-variants.{Row, Absent}
+
+-- offset, words, access ("W is writable, M writable in mode only, the rest read-only": 1, 2, 0) and owners (bit 0 the device, bit s sensor s)
+abbrev pub field : ℕ → ℕ → ℕ → ℕ → Field
+field offset words access owners = record { offset = offset; words = words; access = access; owners = owners }
+
+abbrev pub fields : List Field
+fields =
+    field 0 1 0 1 ∷
+    field 1 1 0 1 ∷
+    field 2 2 0 1 ∷
+    field 4 1 0 1 ∷
+    field 5 1 0 1 ∷
+    field 6 1 0 1 ∷
+    field 7 1 0 1 ∷
+    field 8 1 0 1 ∷
+    field 0 1 0 30 ∷
+    field 1 2 0 30 ∷
+    field 3 2 1 30 ∷
+    field 5 1 1 30 ∷
+    field 6 1 2 22 ∷
+    field 7 1 0 30 ∷
+    field 10 2 2 30 ∷
+    field 12 2 2 30 ∷
+    field 14 2 2 8 ∷
+    field 16 2 2 22 ∷
+    field 18 2 2 22 ∷
+    field 20 2 2 22 ∷
+    field 22 2 2 22 ∷
+    field 30 2 0 30 ∷
+    field 32 1 0 30 ∷
+    field 33 1 1 30 ∷
+    field 34 1 0 30 ∷
+    field 35 2 1 30 ∷
+    field 37 1 0 30 ∷
+    field 38 2 0 10 ∷
+    field 40 1 0 2 ∷
+    field 40 1 1 8 ∷
+    field 41 1 1 10 ∷
+    field 42 1 0 10 ∷
+    field 43 2 1 10 ∷
+    field 45 1 0 10 ∷
+    field 46 2 0 2 ∷
+    field 48 1 0 2 ∷
+    field 49 1 1 2 ∷
+    field 50 1 0 2 ∷
+    field 51 2 1 2 ∷
+    field 53 1 0 2 ∷
+    []
+
+-- owner 0 is the device, owners 1..4 are the sensors
+unfoldable pub owns : Field → ℕ → Bool
+owns f owner =
+    cond (eqb owner 0) (eqb (f .owners % 2) 1)
+    (cond (eqb owner 1) (eqb (f .owners / 2 % 2) 1)
+    (cond (eqb owner 2) (eqb (f .owners / 4 % 2) 1)
+    (cond (eqb owner 3) (eqb (f .owners / 8 % 2) 1)
+    (cond (eqb owner 4) (eqb (f .owners / 16 % 2) 1) false))))
+
+unfoldable pub holds : Field → ℕ → ℕ → Bool
+holds f owner offset = cond (ltb offset (f .offset)) false (owns f owner && ltb (offset - f .offset) (f .words))
+
+-- the first row that holds the register
+abbrev pub findIn : List Field → ℕ → ℕ → Found
+findIn [] owner offset = Absent
+findIn (f ∷ fs) owner offset = cond (holds f owner offset) (Row f) (findIn fs owner offset)
+
+-- "Sensor s begins at 100 × s"; the device's registers begin at 0
+unfoldable pub fieldAt : ℕ → Found
+fieldAt register = findIn fields (register / 100) (register % 100)
+
+abbrev pub found : Found → Bool
+found (Row f) = true
+found Absent = false
+
+-- "a register named is absent, or past 0xFFFF": count registers from r on all exist
+abbrev pub allFound : ℕ → ℕ → Bool
+allFound r zero = true
+allFound r (suc n) = found (fieldAt r) && allFound (suc r) n
+
+-- "exactly one whole field": a field that begins at the register and has so many words
+abbrev pub wholeIn : ℕ → ℕ → Found → Found
+wholeIn offset count Absent = Absent
+wholeIn offset count (Row f) = cond (eqb (f .offset) offset) (cond (eqb (f .words) count) (Row f) Absent) Absent
+
+unfoldable pub whole : ℕ → ℕ → Found
+whole start count = wholeIn (start % 100) count (fieldAt start)

@@ -1,0 +1,53 @@
+-- The parameters of the sensors. Document 01, "Register map", the table of ids and units. Assumes nothing.
+use mathlib.Core.Bool.{Bool, false, _&&_, _||_, cond}
+use Prim.Native.Nat.{ℕ}
+use lib.Dec.{eqb, leb}
+use lib.Ieee.{Float, binary32, add, mul}
+use Rattle.floats.specs.Floats.{near}
+
+-- "number of parameters"
+unfoldable pub countOf : ℕ → ℕ
+countOf sensor = cond (eqb sensor 1) 3 (cond (eqb sensor 2) 1 (cond (eqb sensor 3) 2 (cond (eqb sensor 4) 1 0)))
+
+-- the column "id", by sensor and parameter; of the level's three the first; 0 is no parameter
+unfoldable pub idOf : ℕ → ℕ → ℕ
+idOf sensor k =
+    cond (eqb sensor 1) (cond (eqb k 1) 1 (cond (eqb k 2) 9 (cond (eqb k 3) 11 0)))
+    (cond (eqb sensor 2) (cond (eqb k 1) 20 0)
+    (cond (eqb sensor 3) (cond (eqb k 1) 2 (cond (eqb k 2) 3 0))
+    (cond (eqb sensor 4) (cond (eqb k 1) 51 0) 0)))
+
+-- the column "units": "Defaults are the first listed"
+unfoldable pub defaultUnits : ℕ → ℕ
+defaultUnits id =
+    cond (eqb id 1) 1 (cond (eqb id 9) 65 (cond (eqb id 11) 81 (cond (eqb id 20) 117 (cond (eqb id 2) 17 (cond (eqb id 3) 35 (cond (eqb id 51) 118 0))))))
+
+-- the units listed: 1 and 2; 65; 81; 117; 17, 19, 20, 21, 22; 35; 118
+unfoldable pub unitsAllowed : ℕ → ℕ → Bool
+unitsAllowed id units =
+    cond (eqb id 1) (eqb units 1 || eqb units 2)
+    (cond (eqb id 9) (eqb units 65)
+    (cond (eqb id 11) (eqb units 81)
+    (cond (eqb id 20) (eqb units 117)
+    (cond (eqb id 2) (eqb units 17 || (leb 19 units && leb units 22))
+    (cond (eqb id 3) (eqb units 35)
+    (cond (eqb id 51) (eqb units 118) false))))))
+
+-- the column "available"
+unfoldable pub availableUnits : ℕ → ℕ
+availableUnits id =
+    cond (eqb id 1) 0x0003
+    (cond (eqb id 9) 1 (cond (eqb id 11) 1 (cond (eqb id 20) 0x0010 (cond (eqb id 2) 0x003D (cond (eqb id 3) 0x0004 (cond (eqb id 51) 0x0020 0))))))
+
+-- "3, 4 or 5 (W)"
+unfoldable pub levelAllowed : ℕ → Bool
+levelAllowed id = leb 3 id && leb id 5
+
+-- "2 °F = C × 1.8 + 32", "19, 20, 21, 22 = psi × 6.894757, 0.06894757, 68.94757, 51.71493"; other units are the value's own
+unfoldable pub converted : ℕ → Float → Float
+converted units x =
+    cond (eqb units 2) (add binary32 (mul binary32 x (near 18 10)) (near 32 1))
+    (cond (eqb units 19) (mul binary32 x (near 6894757 1000000))
+    (cond (eqb units 20) (mul binary32 x (near 6894757 100000000))
+    (cond (eqb units 21) (mul binary32 x (near 6894757 100000))
+    (cond (eqb units 22) (mul binary32 x (near 5171493 100000)) x))))

@@ -1,0 +1,77 @@
+-- What each register shows. Document 01, "Register map". Assumes nothing.
+use mathlib.Core.Bool.{_&&_, cond}
+use Prim.Native.Nat.{ℕ, _+_, _-_, _/_, _%_}
+use lib.Dec.{eqb, leb}
+use Rattle.floats.specs.Floats.{highWord, lowWord}
+use Rattle.calibration.specs.Coefficients.{coefficientsOf}
+use Rattle.calibration.specs.declared.coefficients.Coefficients.{Coefficients}
+use Rattle.calibration.specs.declared.methods.Points.{Points}
+use Rattle.parameters.specs.Parameters.{countOf, idOf, availableUnits}
+use Rattle.sensors.specs.Sensors.{parameterOf}
+use Rattle.sensors.specs.declared.Setup.{Setup}
+use Rattle.sensors.specs.declared.Sensor.{Sensor}
+use Rattle.readings.specs.Readings.{readingOf}
+use Rattle.registers.specs.declared.Device.{Device}
+
+-- "command (W, reads 1 with mode on, else 0)"
+unfoldable pub modeOf : Setup → ℕ
+modeOf s = cond (s .calibrating) 1 0
+
+-- "figures (M; shows trial in mode, else in force)"
+unfoldable pub shownCoefficients : Setup → Coefficients
+shownCoefficients s = cond (s .calibrating) (s .trial) (coefficientsOf (s .active))
+
+-- "10, 12, 14 figures"
+unfoldable pub coefficientRegister : Coefficients → ℕ → ℕ
+coefficientRegister c o =
+    cond (eqb o 10) (highWord (c .first)) (cond (eqb o 11) (lowWord (c .first))
+    (cond (eqb o 12) (highWord (c .second)) (cond (eqb o 13) (lowWord (c .second))
+    (cond (eqb o 14) (highWord (c .third)) (cond (eqb o 15) (lowWord (c .third)) 0)))))
+
+-- "16, 18, 20, 22 x1, y1, x2, y2"
+unfoldable pub pointRegister : Points → ℕ → ℕ
+pointRegister p o =
+    cond (eqb o 16) (highWord (p .x1)) (cond (eqb o 17) (lowWord (p .x1))
+    (cond (eqb o 18) (highWord (p .y1)) (cond (eqb o 19) (lowWord (p .y1))
+    (cond (eqb o 20) (highWord (p .x2)) (cond (eqb o 21) (lowWord (p .x2))
+    (cond (eqb o 22) (highWord (p .y2)) (cond (eqb o 23) (lowWord (p .y2)) 0)))))))
+
+-- the column "id"; of the level the id that is set
+unfoldable pub shownId : ℕ → Setup → ℕ → ℕ
+shownId sensor s k = cond (eqb sensor 3 && eqb k 2) (s .level) (idOf sensor k)
+
+-- "+0 value, +2 id, +3 units (W), +4 quality, +5 sentinel (W, default 0.0), +7 available units"
+unfoldable pub parameterRegister : ℕ → Sensor → ℕ → ℕ → ℕ
+parameterRegister sensor s k part =
+    cond (eqb part 0) (highWord (readingOf sensor s k .value)) (cond (eqb part 1) (lowWord (readingOf sensor s k .value))
+    (cond (eqb part 2) (shownId sensor (s .setup) k)
+    (cond (eqb part 3) (parameterOf (s .setup) k .units)
+    (cond (eqb part 4) (readingOf sensor s k .quality)
+    (cond (eqb part 5) (highWord (parameterOf (s .setup) k .sentinel)) (cond (eqb part 6) (lowWord (parameterOf (s .setup) k .sentinel))
+    (availableUnits (idOf sensor k))))))))
+
+-- "offsets: 0 sensor number; 1..2 last calibration; 3..4 next (W); 5 command ..; 6 method ..; 7 number of parameters; 10, 12, 14 figures ..;
+-- 16, 18, 20, 22 x1, y1, x2, y2"; "Parameter k begins at 30 + 8 × (k - 1)"
+unfoldable pub sensorRegister : ℕ → Sensor → ℕ → ℕ
+sensorRegister sensor s o =
+    cond (eqb o 0) sensor
+    (cond (eqb o 1) (s .setup .active .time / 65536) (cond (eqb o 2) (s .setup .active .time % 65536)
+    (cond (eqb o 3) (s .setup .next / 65536) (cond (eqb o 4) (s .setup .next % 65536)
+    (cond (eqb o 5) (modeOf (s .setup))
+    (cond (eqb o 6) (s .setup .method)
+    (cond (eqb o 7) (countOf sensor)
+    (cond (leb 10 o && leb o 15) (coefficientRegister (shownCoefficients (s .setup)) o)
+    (cond (leb 16 o && leb o 23) (pointRegister (s .setup .points) o)
+    (cond (leb 30 o && leb o 53) (parameterRegister sensor s ((o - 30) / 8 + 1) ((o - 30) % 8)) 0))))))))))
+
+-- "Device: 0 map version 3; 1 device id 1; 2..3 clock; 4, 5, 6 good, bad, exception counters; 7 capacity; 8 in use"
+unfoldable pub deviceRegister : Device → ℕ → ℕ
+deviceRegister d o =
+    cond (eqb o 0) 3
+    (cond (eqb o 1) 1
+    (cond (eqb o 2) (d .clock / 65536) (cond (eqb o 3) (d .clock % 65536)
+    (cond (eqb o 4) (d .good)
+    (cond (eqb o 5) (d .bad)
+    (cond (eqb o 6) (d .exceptions)
+    (cond (eqb o 7) (d .capacity)
+    (cond (eqb o 8) (d .used) 0))))))))

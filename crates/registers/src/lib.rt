@@ -1,0 +1,164 @@
+// What each register shows: the device's and the sensors'.
+ghost use mathlib.Core.Path.{_≡_};
+ghost use Prim.Native.Nat.{_/_, _%_};
+ghost use Rattle.registers.specs.Registers.{modeOf, shownCoefficients, coefficientRegister, pointRegister, shownId, parameterRegister, sensorRegister, deviceRegister};
+use calibration::coefficients::Coefficients;
+use calibration::methods::Points;
+use sensors::Sensor;
+use sensors::Setup;
+
+// The values that the device's registers show.
+pub struct Device {
+    pub clock: u32,
+    pub good: u16,
+    pub bad: u16,
+    pub exceptions: u16,
+    pub capacity: u16,
+    pub used: u16,
+}
+
+// The first of the two words of a number of 32 bits.
+fn high(n: u32) -> u16
+    ensures { λ r. ⌜ r ≡ n / 65536 ⌝ }
+{
+    (n / 65536) as u16
+}
+
+// The second.
+fn low(n: u32) -> u16
+    ensures { λ r. ⌜ r ≡ n % 65536 ⌝ }
+{
+    (n % 65536) as u16
+}
+
+// The command register reads 1 in mode, else 0.
+fn mode(setup: Setup) -> u16
+    ensures { λ r. ⌜ r ≡ modeOf setup ⌝ }
+{
+    let calibrating = setup.calibrating;
+    if calibrating {
+        return 1;
+    }
+    0
+}
+
+// The coefficients that are shown: the trial ones in mode, else the active ones.
+fn shown_coefficients(setup: Setup) -> Coefficients
+    ensures { λ r. ⌜ r ≡ shownCoefficients setup ⌝ }
+{
+    let calibrating = setup.calibrating;
+    if calibrating {
+        return setup.trial;
+    }
+    let active = setup.active;
+    active.coefficients()
+}
+
+// Offsets 10 to 15.
+fn coefficient_register(c: Coefficients, offset: u16) -> u16
+    ensures { λ r. ⌜ r ≡ coefficientRegister c offset ⌝ }
+{
+    match offset {
+        10 => floats::high_word(c.first),
+        11 => floats::low_word(c.first),
+        12 => floats::high_word(c.second),
+        13 => floats::low_word(c.second),
+        14 => floats::high_word(c.third),
+        15 => floats::low_word(c.third),
+        _ => 0,
+    }
+}
+
+// Offsets 16 to 23.
+fn point_register(p: Points, offset: u16) -> u16
+    ensures { λ r. ⌜ r ≡ pointRegister p offset ⌝ }
+{
+    match offset {
+        16 => floats::high_word(p.x1),
+        17 => floats::low_word(p.x1),
+        18 => floats::high_word(p.y1),
+        19 => floats::low_word(p.y1),
+        20 => floats::high_word(p.x2),
+        21 => floats::low_word(p.x2),
+        22 => floats::high_word(p.y2),
+        23 => floats::low_word(p.y2),
+        _ => 0,
+    }
+}
+
+// The id of parameter k; the level's is the one that is set.
+fn shown_id(sensor: u16, setup: Setup, k: u16) -> u16
+    ensures { λ r. ⌜ r ≡ shownId sensor setup k ⌝ }
+{
+    if (sensor == 3) & (k == 2) {
+        return setup.level;
+    }
+    parameters::parameter_id(sensor, k)
+}
+
+// One of the eight registers of parameter k.
+fn parameter_register(sensor: u16, s: Sensor, k: u16, part: u16) -> u16
+    ensures { λ r. ⌜ r ≡ parameterRegister sensor s k part ⌝ }
+{
+    let setup = s.setup;
+    let p = setup.parameter(k);
+    match part {
+        0 => {
+            let r = readings::reading(sensor, s, k);
+            floats::high_word(r.value)
+        }
+        1 => {
+            let r = readings::reading(sensor, s, k);
+            floats::low_word(r.value)
+        }
+        2 => shown_id(sensor, setup, k),
+        3 => p.units,
+        4 => {
+            let r = readings::reading(sensor, s, k);
+            r.quality
+        }
+        5 => floats::high_word(p.sentinel),
+        6 => floats::low_word(p.sentinel),
+        _ => parameters::available_units(parameters::parameter_id(sensor, k)),
+    }
+}
+
+// A register of a sensor, by its offset; 0 where the map has none.
+pub fn sensor_register(sensor: u16, s: Sensor, offset: u16) -> u16
+    ensures { λ r. ⌜ r ≡ sensorRegister sensor s offset ⌝ }
+{
+    let setup = s.setup;
+    let active = setup.active;
+    match offset {
+        0 => sensor,
+        1 => high(active.time),
+        2 => low(active.time),
+        3 => high(setup.next),
+        4 => low(setup.next),
+        5 => mode(setup),
+        6 => setup.method,
+        7 => parameters::count(sensor),
+        10..=15 => coefficient_register(shown_coefficients(setup), offset),
+        16..=23 => point_register(setup.points, offset),
+        30..=53 => parameter_register(sensor, s, (offset - 30) / 8 + 1, (offset - 30) % 8),
+        _ => 0,
+    }
+}
+
+// A register of the device; 0 where the map has none.
+pub fn device_register(d: Device, offset: u16) -> u16
+    ensures { λ r. ⌜ r ≡ deviceRegister d offset ⌝ }
+{
+    match offset {
+        0 => 3,
+        1 => 1,
+        2 => high(d.clock),
+        3 => low(d.clock),
+        4 => d.good,
+        5 => d.bad,
+        6 => d.exceptions,
+        7 => d.capacity,
+        8 => d.used,
+        _ => 0,
+    }
+}
