@@ -70,10 +70,13 @@ abbrev pub reading : ℕ → Float → Reading
 reading quality value = record { quality = quality; value = value }
 
 -- "Quality: 7 never measured or not present; else 3 not finite; else 6 in mode; else 0. At 7 and 3 the value is the sentinel."
+unfoldable pub judgedReading : Bool → Bool → Bool → Float → Float → Reading
+judgedReading present isFinite calibrating shown sentinel =
+    cond present (cond isFinite (cond calibrating (reading 6 shown) (reading 0 shown)) (reading 3 sentinel)) (reading 7 sentinel)
+
+-- a parameter is finite where its value as shown is, and that of the one it is worked from before its conversion
 unfoldable pub readingOf : ℕ → Sensor → ℕ → Reading
 readingOf sensor s k =
-    cond (s .sample .present)
-    (cond (finite (valueOf sensor (s .setup) (s .sample) (workedFrom sensor k)) && finite (shownOf sensor s k))
-    (cond (s .setup .calibrating) (reading 6 (shownOf sensor s k)) (reading 0 (shownOf sensor s k)))
-    (reading 3 (parameterOf (s .setup) k .sentinel)))
-    (reading 7 (parameterOf (s .setup) k .sentinel))
+    judgedReading (s .sample .present)
+    (finite (valueOf sensor (s .setup) (s .sample) (workedFrom sensor k)) && finite (shownOf sensor s k))
+    (s .setup .calibrating) (shownOf sensor s k) (parameterOf (s .setup) k .sentinel)

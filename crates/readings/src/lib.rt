@@ -1,6 +1,6 @@
 // The readings of the parameters: value and quality, with the conversion to the units that are set.
 ghost use mathlib.Core.Path.{_≡_};
-ghost use Rattle.readings.specs.Readings.{linear, height, resistivityOf, depthOf, calibratedOf, pressureOf, levelOf, conductivityValue, levelValue, valueOf, workedFrom, readingOf};
+ghost use Rattle.readings.specs.Readings.{height, resistivityOf, depthOf, calibratedOf, pressureOf, levelOf, conductivityValue, levelValue, valueOf, workedFrom, judgedReading, readingOf};
 use calibration::coefficients::Calibration;
 use sensors::Sample;
 use sensors::Sensor;
@@ -121,29 +121,22 @@ fn worked_from(sensor: u16, k: u16) -> u16
     k
 }
 
-// The reading of parameter k of a sensor.
-pub fn reading(sensor: u16, s: Sensor, k: u16) -> Reading
-    ensures { λ r. ⌜ r ≡ readingOf sensor s k ⌝ }
+// Quality and value: not present before not finite before in mode.
+fn judged(present: bool, good: bool, calibrating: bool, shown: f32, sentinel: f32) -> Reading
+    ensures { λ r. ⌜ r ≡ judgedReading present good calibrating shown sentinel ⌝ }
 {
-    let setup = s.setup;
-    let sample = s.sample;
-    let p = setup.parameter(k);
-    let present = sample.present;
     if !present {
         return Reading {
             quality: 7,
-            value: p.sentinel,
+            value: sentinel,
         };
     }
-    let source = value(sensor, setup, sample, worked_from(sensor, k));
-    let shown = parameters::convert(p.units, value(sensor, setup, sample, k));
-    if !(floats::is_finite(source) & floats::is_finite(shown)) {
+    if !good {
         return Reading {
             quality: 3,
-            value: p.sentinel,
+            value: sentinel,
         };
     }
-    let calibrating = setup.calibrating;
     if calibrating {
         return Reading {
             quality: 6,
@@ -154,4 +147,17 @@ pub fn reading(sensor: u16, s: Sensor, k: u16) -> Reading
         quality: 0,
         value: shown,
     }
+}
+
+// The reading of parameter k of a sensor.
+pub fn read(sensor: u16, s: Sensor, k: u16) -> Reading
+    ensures { λ r. ⌜ r ≡ readingOf sensor s k ⌝ }
+{
+    let setup = s.setup;
+    let sample = s.sample;
+    let p = setup.parameter(k);
+    let source = value(sensor, setup, sample, worked_from(sensor, k));
+    let shown = parameters::convert(p.units, value(sensor, setup, sample, k));
+    let good = floats::is_finite(source) & floats::is_finite(shown);
+    judged(sample.present, good, setup.calibrating, shown, p.sentinel)
 }

@@ -104,17 +104,17 @@ fn parameter_register(sensor: u16, s: Sensor, k: u16, part: u16) -> u16
     let p = setup.parameter(k);
     match part {
         0 => {
-            let r = readings::reading(sensor, s, k);
+            let r = readings::read(sensor, s, k);
             floats::high_word(r.value)
         }
         1 => {
-            let r = readings::reading(sensor, s, k);
+            let r = readings::read(sensor, s, k);
             floats::low_word(r.value)
         }
         2 => shown_id(sensor, setup, k),
         3 => p.units,
         4 => {
-            let r = readings::reading(sensor, s, k);
+            let r = readings::read(sensor, s, k);
             r.quality
         }
         5 => floats::high_word(p.sentinel),

@@ -1,0 +1,72 @@
+use borrow.Author.Needs.{needs}
+use Rattle.registers.proofs.device_register.Statement.{statement}
+use Rattle.registers.proofs.device_register.Tie as tie
+use Rattle.registers.proofs.device_register.Reads as reads
+use Rattle.registers.proofs.device_register.Lts as lts
+use Rattle.registers.proofs.high.Reads as high-reads
+use Rattle.registers.proofs.low.Reads as low-reads
+
+-- src/lib.rt:155:14
+high-requires : tie.Need-high-requires
+high-requires c κs = search needs
+
+-- src/lib.rt:156:14
+low-requires : tie.Need-low-requires
+low-requires c κs = search needs
+
+-- src/lib.rt:149:1
+returns : tie.Need-returns
+returns c = ?
+
+-- src/lib.rt:149:1
+returns-2 : tie.Need-returns-2
+returns-2 c = ?
+
+-- src/lib.rt:149:1
+returns-3 : tie.Need-returns-3
+returns-3 c = ?
+
+-- src/lib.rt:149:1
+returns-4 : tie.Need-returns-4
+returns-4 c = ?
+
+-- src/lib.rt:149:1
+returns-5 : tie.Need-returns-5
+returns-5 c = ?
+
+-- src/lib.rt:149:1
+returns-6 : tie.Need-returns-6
+returns-6 c = ?
+
+-- src/lib.rt:149:1
+returns-7 : tie.Need-returns-7
+returns-7 c = ?
+
+-- src/lib.rt:149:1
+returns-8 : tie.Need-returns-8
+returns-8 c = ?
+
+-- src/lib.rt:149:1
+returns-9 : tie.Need-returns-9
+returns-9 c = ?
+
+-- src/lib.rt:149:1
+returns-10 : tie.Need-returns-10
+returns-10 c = ?
+
+pub device-register-spec : {M : Type 1} → statement M
+device-register-spec =
+    tie.close
+    (tie.spec
+    high-requires
+    low-requires
+    returns
+    returns-2
+    returns-3
+    returns-4
+    returns-5
+    returns-6
+    returns-7
+    returns-8
+    returns-9
+    returns-10)
