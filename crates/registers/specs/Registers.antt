@@ -1,7 +1,7 @@
 -- What each register shows. Document 01, "Register map". Assumes nothing.
 use mathlib.Core.Bool.{_&&_, cond}
 use Prim.Native.Nat.{ℕ, _+_, _-_, _/_, _%_}
-use lib.Dec.{eqb, leb}
+use lib.Dec.{eqb, ltb}
 use Rattle.floats.specs.Floats.{highWord, lowWord}
 use Rattle.calibration.specs.Coefficients.{coefficientsOf}
 use Rattle.calibration.specs.declared.coefficients.Coefficients.{Coefficients}
@@ -50,19 +50,24 @@ parameterRegister sensor s k part =
     (cond (eqb part 5) (highWord (parameterOf (s .setup) k .sentinel)) (cond (eqb part 6) (lowWord (parameterOf (s .setup) k .sentinel))
     (availableUnits (idOf sensor k))))))))
 
--- "offsets: 0 sensor number; 1..2 last calibration; 3..4 next (W); 5 command ..; 6 method ..; 7 number of parameters; 10, 12, 14 figures ..;
--- 16, 18, 20, 22 x1, y1, x2, y2"; "Parameter k begins at 30 + 8 × (k - 1)"
+-- "offsets: 0 sensor number; 1..2 last calibration; 3..4 next (W); 5 command ..; 6 method ..; 7 number of parameters"
+unfoldable pub headRegister : ℕ → Setup → ℕ → ℕ
+headRegister sensor s o =
+    cond (eqb o 0) sensor
+    (cond (eqb o 1) (s .active .time / 65536) (cond (eqb o 2) (s .active .time % 65536)
+    (cond (eqb o 3) (s .next / 65536) (cond (eqb o 4) (s .next % 65536)
+    (cond (eqb o 5) (modeOf s)
+    (cond (eqb o 6) (s .method)
+    (cond (eqb o 7) (countOf sensor) 0)))))))
+
+-- "10, 12, 14 figures ..; 16, 18, 20, 22 x1, y1, x2, y2"; "Parameter k begins at 30 + 8 × (k - 1)"
 unfoldable pub sensorRegister : ℕ → Sensor → ℕ → ℕ
 sensorRegister sensor s o =
-    cond (eqb o 0) sensor
-    (cond (eqb o 1) (s .setup .active .time / 65536) (cond (eqb o 2) (s .setup .active .time % 65536)
-    (cond (eqb o 3) (s .setup .next / 65536) (cond (eqb o 4) (s .setup .next % 65536)
-    (cond (eqb o 5) (modeOf (s .setup))
-    (cond (eqb o 6) (s .setup .method)
-    (cond (eqb o 7) (countOf sensor)
-    (cond (leb 10 o && leb o 15) (coefficientRegister (shownCoefficients (s .setup)) o)
-    (cond (leb 16 o && leb o 23) (pointRegister (s .setup .points) o)
-    (cond (leb 30 o && leb o 53) (parameterRegister sensor s ((o - 30) / 8 + 1) ((o - 30) % 8)) 0))))))))))
+    cond (ltb o 10) (headRegister sensor (s .setup) o)
+    (cond (ltb o 16) (coefficientRegister (shownCoefficients (s .setup)) o)
+    (cond (ltb o 24) (pointRegister (s .setup .points) o)
+    (cond (ltb o 30) 0
+    (cond (ltb o 54) (parameterRegister sensor s ((o - 30) / 8 + 1) ((o - 30) % 8)) 0))))
 
 -- "Device: 0 map version 3; 1 device id 1; 2..3 clock; 4, 5, 6 good, bad, exception counters; 7 capacity; 8 in use"
 unfoldable pub deviceRegister : Device → ℕ → ℕ

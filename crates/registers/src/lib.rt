@@ -1,7 +1,7 @@
 // What each register shows: the device's and the sensors'.
 ghost use mathlib.Core.Path.{_≡_};
 ghost use Prim.Native.Nat.{_/_, _%_};
-ghost use Rattle.registers.specs.Registers.{modeOf, shownCoefficients, coefficientRegister, pointRegister, shownId, parameterRegister, sensorRegister, deviceRegister};
+ghost use Rattle.registers.specs.Registers.{modeOf, shownCoefficients, coefficientRegister, pointRegister, shownId, parameterRegister, headRegister, sensorRegister, deviceRegister};
 use calibration::coefficients::Coefficients;
 use calibration::methods::Points;
 use sensors::Sensor;
@@ -46,12 +46,14 @@ fn mode(setup: Setup) -> u16
 fn shown_coefficients(setup: Setup) -> Coefficients
     ensures { λ r. ⌜ r ≡ shownCoefficients setup ⌝ }
 {
+    let active = setup.active;
+    let settled = active.coefficients();
+    let trial = setup.trial;
     let calibrating = setup.calibrating;
     if calibrating {
-        return setup.trial;
+        return trial;
     }
-    let active = setup.active;
-    active.coefficients()
+    settled
 }
 
 // Offsets 10 to 15.
@@ -123,11 +125,10 @@ fn parameter_register(sensor: u16, s: Sensor, k: u16, part: u16) -> u16
     }
 }
 
-// A register of a sensor, by its offset; 0 where the map has none.
-pub fn sensor_register(sensor: u16, s: Sensor, offset: u16) -> u16
-    ensures { λ r. ⌜ r ≡ sensorRegister sensor s offset ⌝ }
+// Offsets 0 to 9.
+fn head_register(sensor: u16, setup: Setup, offset: u16) -> u16
+    ensures { λ r. ⌜ r ≡ headRegister sensor setup offset ⌝ }
 {
-    let setup = s.setup;
     let active = setup.active;
     match offset {
         0 => sensor,
@@ -138,6 +139,17 @@ pub fn sensor_register(sensor: u16, s: Sensor, offset: u16) -> u16
         5 => mode(setup),
         6 => setup.method,
         7 => parameters::count(sensor),
+        _ => 0,
+    }
+}
+
+// A register of a sensor, by its offset; 0 where the map has none.
+pub fn sensor_register(sensor: u16, s: Sensor, offset: u16) -> u16
+    ensures { λ r. ⌜ r ≡ sensorRegister sensor s offset ⌝ }
+{
+    let setup = s.setup;
+    match offset {
+        0..=9 => head_register(sensor, setup, offset),
         10..=15 => coefficient_register(shown_coefficients(setup), offset),
         16..=23 => point_register(setup.points, offset),
         30..=53 => parameter_register(sensor, s, (offset - 30) / 8 + 1, (offset - 30) % 8),

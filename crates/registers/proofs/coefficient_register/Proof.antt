@@ -1,3 +1,5 @@
+use borrow.Author.Tests.{ne-eqb}
+use Rattle.registers.specs.Registers.{coefficientRegister}
 use borrow.Author.Needs.{needs}
 use Rattle.registers.proofs.coefficient_register.Statement.{statement}
 use Rattle.registers.proofs.coefficient_register.Tie as tie
@@ -32,31 +34,38 @@ low-word-requires-3 c κs = search needs
 
 -- src/lib.rt:58:1
 returns : tie.Need-returns
-returns c = ?
+unfolding coefficientRegister
+returns c = cc
 
 -- src/lib.rt:58:1
 returns-2 : tie.Need-returns-2
-returns-2 c = ?
+unfolding coefficientRegister
+returns-2 c = cc
 
 -- src/lib.rt:58:1
 returns-3 : tie.Need-returns-3
-returns-3 c = ?
+unfolding coefficientRegister
+returns-3 c = cc
 
 -- src/lib.rt:58:1
 returns-4 : tie.Need-returns-4
-returns-4 c = ?
+unfolding coefficientRegister
+returns-4 c = cc
 
 -- src/lib.rt:58:1
 returns-5 : tie.Need-returns-5
-returns-5 c = ?
+unfolding coefficientRegister
+returns-5 c = cc
 
 -- src/lib.rt:58:1
 returns-6 : tie.Need-returns-6
-returns-6 c = ?
+unfolding coefficientRegister
+returns-6 c = cc
 
 -- src/lib.rt:58:1
 returns-7 : tie.Need-returns-7
-returns-7 c = ?
+unfolding coefficientRegister
+returns-7 c = simp (ne-eqb _ _ (c .match .rest .0 .0 .0 .0 .0 .1), ne-eqb _ _ (c .match .rest .0 .0 .0 .0 .1), ne-eqb _ _ (c .match .rest .0 .0 .0 .1), ne-eqb _ _ (c .match .rest .0 .0 .1), ne-eqb _ _ (c .match .rest .0 .1), ne-eqb _ _ (c .match .rest .1))
 
 pub coefficient-register-spec : {M : Type 1} → statement M
 coefficient-register-spec =

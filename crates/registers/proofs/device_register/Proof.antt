@@ -1,3 +1,5 @@
+use borrow.Author.Tests.{ne-eqb}
+use Rattle.registers.specs.Registers.{deviceRegister}
 use borrow.Author.Needs.{needs}
 use Rattle.registers.proofs.device_register.Statement.{statement}
 use Rattle.registers.proofs.device_register.Tie as tie
@@ -16,43 +18,53 @@ low-requires c κs = search needs
 
 -- src/lib.rt:149:1
 returns : tie.Need-returns
-returns c = ?
+unfolding deviceRegister
+returns c = cc
 
 -- src/lib.rt:149:1
 returns-2 : tie.Need-returns-2
-returns-2 c = ?
+unfolding deviceRegister
+returns-2 c = cc
 
 -- src/lib.rt:149:1
 returns-3 : tie.Need-returns-3
-returns-3 c = ?
+unfolding deviceRegister
+returns-3 c = cc
 
 -- src/lib.rt:149:1
 returns-4 : tie.Need-returns-4
-returns-4 c = ?
+unfolding deviceRegister
+returns-4 c = cc
 
 -- src/lib.rt:149:1
 returns-5 : tie.Need-returns-5
-returns-5 c = ?
+unfolding deviceRegister
+returns-5 c = cc
 
 -- src/lib.rt:149:1
 returns-6 : tie.Need-returns-6
-returns-6 c = ?
+unfolding deviceRegister
+returns-6 c = cc
 
 -- src/lib.rt:149:1
 returns-7 : tie.Need-returns-7
-returns-7 c = ?
+unfolding deviceRegister
+returns-7 c = cc
 
 -- src/lib.rt:149:1
 returns-8 : tie.Need-returns-8
-returns-8 c = ?
+unfolding deviceRegister
+returns-8 c = cc
 
 -- src/lib.rt:149:1
 returns-9 : tie.Need-returns-9
-returns-9 c = ?
+unfolding deviceRegister
+returns-9 c = cc
 
 -- src/lib.rt:149:1
 returns-10 : tie.Need-returns-10
-returns-10 c = ?
+unfolding deviceRegister
+returns-10 c = simp (ne-eqb _ _ (c .match .rest .0 .0 .0 .0 .0 .0 .0 .0 .1), ne-eqb _ _ (c .match .rest .0 .0 .0 .0 .0 .0 .0 .1), ne-eqb _ _ (c .match .rest .0 .0 .0 .0 .0 .0 .1), ne-eqb _ _ (c .match .rest .0 .0 .0 .0 .0 .1), ne-eqb _ _ (c .match .rest .0 .0 .0 .0 .1), ne-eqb _ _ (c .match .rest .0 .0 .0 .1), ne-eqb _ _ (c .match .rest .0 .0 .1), ne-eqb _ _ (c .match .rest .0 .1), ne-eqb _ _ (c .match .rest .1))
 
 pub device-register-spec : {M : Type 1} → statement M
 device-register-spec =

@@ -1,3 +1,4 @@
+use Rattle.registers.specs.Registers.{modeOf}
 use Rattle.registers.proofs.mode.Statement.{statement}
 use Rattle.registers.proofs.mode.Tie as tie
 use Rattle.registers.proofs.mode.Reads as reads
@@ -5,11 +6,13 @@ use Rattle.registers.proofs.mode.Lts as lts
 
 -- src/lib.rt:40:9
 returns : tie.Need-returns
-returns c = ?
+unfolding modeOf
+returns c = simp (c .if1 .taken)
 
 -- src/lib.rt:35:1
 returns-2 : tie.Need-returns-2
-returns-2 c = ?
+unfolding modeOf
+returns-2 c = simp (c .if1 .left)
 
 pub mode-spec : {M : Type 1} → statement M
 mode-spec = tie.close (tie.spec returns returns-2)

@@ -1,3 +1,5 @@
+use borrow.Author.Tests.{ne-eqb}
+use Rattle.registers.specs.Registers.{parameterRegister}
 use borrow.Author.Needs.{needs}
 use Rattle.registers.proofs.parameter_register.Statement.{statement}
 use Rattle.registers.proofs.parameter_register.Tie as tie
@@ -57,35 +59,43 @@ available-units-requires c κs = search needs
 
 -- src/lib.rt:100:1
 returns : tie.Need-returns
-returns c = ?
+unfolding parameterRegister
+returns c = simp (c .before .before .match .keys1, ← c .before .read .ensures, ← c .high-word .ensures)
 
 -- src/lib.rt:100:1
 returns-2 : tie.Need-returns-2
-returns-2 c = ?
+unfolding parameterRegister
+returns-2 c = simp (c .before .before .match .keys2, ← c .before .read2 .ensures, ← c .low-word .ensures)
 
 -- src/lib.rt:100:1
 returns-3 : tie.Need-returns-3
-returns-3 c = ?
+unfolding parameterRegister
+returns-3 c = simp (c .before .match .keys3, ← c .shown-id .ensures)
 
 -- src/lib.rt:100:1
 returns-4 : tie.Need-returns-4
-returns-4 c = ?
+unfolding parameterRegister
+returns-4 c = simp (← c .before .parameter .ensures, c .match .keys4)
 
 -- src/lib.rt:100:1
 returns-5 : tie.Need-returns-5
-returns-5 c = ?
+unfolding parameterRegister
+returns-5 c = simp (c .before .match .keys5, ← c .read3 .ensures)
 
 -- src/lib.rt:100:1
 returns-6 : tie.Need-returns-6
-returns-6 c = ?
+unfolding parameterRegister
+returns-6 c = simp (← c .before .before .parameter .ensures, c .before .match .keys6, ← c .high-word2 .ensures)
 
 -- src/lib.rt:100:1
 returns-7 : tie.Need-returns-7
-returns-7 c = ?
+unfolding parameterRegister
+returns-7 c = simp (← c .before .before .parameter .ensures, c .before .match .keys7, ← c .low-word2 .ensures)
 
 -- src/lib.rt:100:1
 returns-8 : tie.Need-returns-8
-returns-8 c = ?
+unfolding parameterRegister
+returns-8 c = simp (ne-eqb _ _ (c .before .before .match .rest .0 .0 .0 .0 .0 .0 .1), ne-eqb _ _ (c .before .before .match .rest .0 .0 .0 .0 .0 .1), ne-eqb _ _ (c .before .before .match .rest .0 .0 .0 .0 .1), ne-eqb _ _ (c .before .before .match .rest .0 .0 .0 .1), ne-eqb _ _ (c .before .before .match .rest .0 .0 .1), ne-eqb _ _ (c .before .before .match .rest .0 .1), ne-eqb _ _ (c .before .before .match .rest .1), ← c .before .parameter-id .ensures, ← c .available-units .ensures)
 
 pub parameter-register-spec : {M : Type 1} → statement M
 parameter-register-spec =

@@ -1,3 +1,5 @@
+use borrow.Author.Tests.{ne-eqb}
+use Rattle.registers.specs.Registers.{pointRegister}
 use borrow.Author.Needs.{needs}
 use Rattle.registers.proofs.point_register.Statement.{statement}
 use Rattle.registers.proofs.point_register.Tie as tie
@@ -40,39 +42,48 @@ low-word-requires-4 c κs = search needs
 
 -- src/lib.rt:73:1
 returns : tie.Need-returns
-returns c = ?
+unfolding pointRegister
+returns c = cc
 
 -- src/lib.rt:73:1
 returns-2 : tie.Need-returns-2
-returns-2 c = ?
+unfolding pointRegister
+returns-2 c = cc
 
 -- src/lib.rt:73:1
 returns-3 : tie.Need-returns-3
-returns-3 c = ?
+unfolding pointRegister
+returns-3 c = cc
 
 -- src/lib.rt:73:1
 returns-4 : tie.Need-returns-4
-returns-4 c = ?
+unfolding pointRegister
+returns-4 c = cc
 
 -- src/lib.rt:73:1
 returns-5 : tie.Need-returns-5
-returns-5 c = ?
+unfolding pointRegister
+returns-5 c = cc
 
 -- src/lib.rt:73:1
 returns-6 : tie.Need-returns-6
-returns-6 c = ?
+unfolding pointRegister
+returns-6 c = cc
 
 -- src/lib.rt:73:1
 returns-7 : tie.Need-returns-7
-returns-7 c = ?
+unfolding pointRegister
+returns-7 c = cc
 
 -- src/lib.rt:73:1
 returns-8 : tie.Need-returns-8
-returns-8 c = ?
+unfolding pointRegister
+returns-8 c = cc
 
 -- src/lib.rt:73:1
 returns-9 : tie.Need-returns-9
-returns-9 c = ?
+unfolding pointRegister
+returns-9 c = simp (ne-eqb _ _ (c .match .rest .0 .0 .0 .0 .0 .0 .0 .1), ne-eqb _ _ (c .match .rest .0 .0 .0 .0 .0 .0 .1), ne-eqb _ _ (c .match .rest .0 .0 .0 .0 .0 .1), ne-eqb _ _ (c .match .rest .0 .0 .0 .0 .1), ne-eqb _ _ (c .match .rest .0 .0 .0 .1), ne-eqb _ _ (c .match .rest .0 .0 .1), ne-eqb _ _ (c .match .rest .0 .1), ne-eqb _ _ (c .match .rest .1))
 
 pub point-register-spec : {M : Type 1} → statement M
 point-register-spec =

@@ -1,3 +1,4 @@
+use Rattle.registers.specs.Registers.{shownCoefficients}
 use borrow.Author.Needs.{needs}
 use Rattle.registers.proofs.shown_coefficients.Statement.{statement}
 use Rattle.registers.proofs.shown_coefficients.Tie as tie
@@ -5,17 +6,19 @@ use Rattle.registers.proofs.shown_coefficients.Reads as reads
 use Rattle.registers.proofs.shown_coefficients.Lts as lts
 use Rattle.calibration.proofs.coefficients.Calibration.coefficients.Reads as coefficients-reads
 
--- src/lib.rt:51:9
-returns : tie.Need-returns
-returns c = ?
-
--- src/lib.rt:54:5
+-- src/lib.rt:50:9
 coefficients-requires : tie.Need-coefficients-requires
 coefficients-requires c κs = search needs
 
+-- src/lib.rt:54:9
+returns : tie.Need-returns
+unfolding shownCoefficients
+returns c = cc
+
 -- src/lib.rt:46:1
 returns-2 : tie.Need-returns-2
-returns-2 c = ?
+unfolding shownCoefficients
+returns-2 c = cc
 
 pub shown-coefficients-spec : {M : Type 1} → statement M
-shown-coefficients-spec = tie.close (tie.spec returns coefficients-requires returns-2)
+shown-coefficients-spec = tie.close (tie.spec coefficients-requires returns returns-2)
