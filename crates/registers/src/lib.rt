@@ -50,10 +50,10 @@ fn shown_coefficients(setup: Setup) -> Coefficients
     let settled = active.coefficients();
     let trial = setup.trial;
     let calibrating = setup.calibrating;
-    if calibrating {
-        return trial;
+    if !calibrating {
+        return settled;
     }
-    settled
+    trial
 }
 
 // Offsets 10 to 15.
