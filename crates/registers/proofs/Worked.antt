@@ -1,12 +1,12 @@
 -- Registers worked out by computation: conductivity in and out of mode, both zeros of resistivity, the three levels, units, sentinels and
 -- qualities. Assumes nothing.
 use mathlib.Core.Path.{_≡_, refl}
-use mathlib.Core.Bool.{Bool, true, false}
+use mathlib.Core.Bool.{true, false}
 use mathlib.Core.List.{List, [], _∷_}
 use Prim.Native.Nat.{ℕ, zero, suc}
 use lib.Ieee.{Float, add, sub, mul, div, round, ofBits, toBits, le, eq}
 use Rattle.floats.specs.Floats.{near, minus, plusZero, finite, highWord, lowWord}
-use Rattle.calibration.specs.Coefficients.{coefficients, calibrationOf, defaultsOf}
+use Rattle.calibration.specs.Coefficients.{coefficients, defaultsOf}
 use Rattle.parameters.specs.Parameters.{countOf, idOf, defaultUnits, availableUnits, converted}
 use Rattle.sensors.specs.Sensors.{parameterOf, freshParameter, freshSetup, freshSample, freshSensor}
 use Rattle.sensors.specs.Changes.{sample, restarted, calibratedAt, withTrial, withLevel, withParameter, measuredOf}

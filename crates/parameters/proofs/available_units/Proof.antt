@@ -1,46 +1,37 @@
+-- `parameters::available_units` meets its contract. Assumes nothing.
 use borrow.Author.Tests.{ne-eqb}
 use Rattle.parameters.specs.Parameters.{availableUnits}
 use Rattle.parameters.proofs.available_units.Statement.{statement}
 use Rattle.parameters.proofs.available_units.Tie as tie
-use Rattle.parameters.proofs.available_units.Reads as reads
-use Rattle.parameters.proofs.available_units.Lts as lts
 
--- src/lib.rt:79:1
 returns : tie.Need-returns
 unfolding availableUnits
 returns c = cc
 
--- src/lib.rt:79:1
 returns-2 : tie.Need-returns-2
 unfolding availableUnits
 returns-2 c = cc
 
--- src/lib.rt:79:1
 returns-3 : tie.Need-returns-3
 unfolding availableUnits
 returns-3 c = cc
 
--- src/lib.rt:79:1
 returns-4 : tie.Need-returns-4
 unfolding availableUnits
 returns-4 c = cc
 
--- src/lib.rt:79:1
 returns-5 : tie.Need-returns-5
 unfolding availableUnits
 returns-5 c = cc
 
--- src/lib.rt:79:1
 returns-6 : tie.Need-returns-6
 unfolding availableUnits
 returns-6 c = cc
 
--- src/lib.rt:79:1
 returns-7 : tie.Need-returns-7
 unfolding availableUnits
 returns-7 c = cc
 
--- src/lib.rt:79:1
 returns-8 : tie.Need-returns-8
 unfolding availableUnits
 returns-8 c = simp (ne-eqb _ _ (c .match .rest .0 .0 .0 .0 .0 .0 .1), ne-eqb _ _ (c .match .rest .0 .0 .0 .0 .0 .1), ne-eqb _ _ (c .match .rest .0 .0 .0 .0 .1), ne-eqb _ _ (c .match .rest .0 .0 .0 .1), ne-eqb _ _ (c .match .rest .0 .0 .1), ne-eqb _ _ (c .match .rest .0 .1), ne-eqb _ _ (c .match .rest .1))

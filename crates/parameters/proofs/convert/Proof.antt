@@ -1,38 +1,31 @@
+-- `parameters::convert` meets its contract. Assumes nothing.
 use lib.Ieee.{ofBits, round}
 use borrow.Author.Tests.{ne-eqb}
 use Rattle.parameters.specs.Parameters.{converted}
 use Rattle.floats.specs.Floats.{near}
 use Rattle.parameters.proofs.convert.Statement.{statement}
 use Rattle.parameters.proofs.convert.Tie as tie
-use Rattle.parameters.proofs.convert.Reads as reads
-use Rattle.parameters.proofs.convert.Lts as lts
 
--- src/lib.rt:102:1
 returns : tie.Need-returns
 unfolding converted near ofBits round
 returns c = simp (c .match .keys1)
 
--- src/lib.rt:102:1
 returns-2 : tie.Need-returns-2
 unfolding converted near ofBits round
 returns-2 c = simp (c .match .keys2)
 
--- src/lib.rt:102:1
 returns-3 : tie.Need-returns-3
 unfolding converted near ofBits round
 returns-3 c = simp (c .match .keys3)
 
--- src/lib.rt:102:1
 returns-4 : tie.Need-returns-4
 unfolding converted near ofBits round
 returns-4 c = simp (c .match .keys4)
 
--- src/lib.rt:102:1
 returns-5 : tie.Need-returns-5
 unfolding converted near ofBits round
 returns-5 c = simp (c .match .keys5)
 
--- src/lib.rt:102:1
 returns-6 : tie.Need-returns-6
 unfolding converted
 returns-6 c = simp (ne-eqb _ _ (c .match .rest .0 .0 .0 .0 .1), ne-eqb _ _ (c .match .rest .0 .0 .0 .1), ne-eqb _ _ (c .match .rest .0 .0 .1), ne-eqb _ _ (c .match .rest .0 .1), ne-eqb _ _ (c .match .rest .1))

@@ -1,31 +1,25 @@
+-- `parameters::count` meets its contract. Assumes nothing.
 use borrow.Author.Tests.{ne-eqb}
 use Rattle.parameters.specs.Parameters.{countOf}
 use Rattle.parameters.proofs.count.Statement.{statement}
 use Rattle.parameters.proofs.count.Tie as tie
-use Rattle.parameters.proofs.count.Reads as reads
-use Rattle.parameters.proofs.count.Lts as lts
 
--- src/lib.rt:6:1
 returns : tie.Need-returns
 unfolding countOf
 returns c = cc
 
--- src/lib.rt:6:1
 returns-2 : tie.Need-returns-2
 unfolding countOf
 returns-2 c = cc
 
--- src/lib.rt:6:1
 returns-3 : tie.Need-returns-3
 unfolding countOf
 returns-3 c = cc
 
--- src/lib.rt:6:1
 returns-4 : tie.Need-returns-4
 unfolding countOf
 returns-4 c = cc
 
--- src/lib.rt:6:1
 returns-5 : tie.Need-returns-5
 unfolding countOf
 returns-5 c = simp (ne-eqb _ _ (c .match .rest .0 .0 .0 .1), ne-eqb _ _ (c .match .rest .0 .0 .1), ne-eqb _ _ (c .match .rest .0 .1), ne-eqb _ _ (c .match .rest .1))

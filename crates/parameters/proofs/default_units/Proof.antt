@@ -1,46 +1,37 @@
+-- `parameters::default_units` meets its contract. Assumes nothing.
 use borrow.Author.Tests.{ne-eqb}
 use Rattle.parameters.specs.Parameters.{defaultUnits}
 use Rattle.parameters.proofs.default_units.Statement.{statement}
 use Rattle.parameters.proofs.default_units.Tie as tie
-use Rattle.parameters.proofs.default_units.Reads as reads
-use Rattle.parameters.proofs.default_units.Lts as lts
 
--- src/lib.rt:47:1
 returns : tie.Need-returns
 unfolding defaultUnits
 returns c = cc
 
--- src/lib.rt:47:1
 returns-2 : tie.Need-returns-2
 unfolding defaultUnits
 returns-2 c = cc
 
--- src/lib.rt:47:1
 returns-3 : tie.Need-returns-3
 unfolding defaultUnits
 returns-3 c = cc
 
--- src/lib.rt:47:1
 returns-4 : tie.Need-returns-4
 unfolding defaultUnits
 returns-4 c = cc
 
--- src/lib.rt:47:1
 returns-5 : tie.Need-returns-5
 unfolding defaultUnits
 returns-5 c = cc
 
--- src/lib.rt:47:1
 returns-6 : tie.Need-returns-6
 unfolding defaultUnits
 returns-6 c = cc
 
--- src/lib.rt:47:1
 returns-7 : tie.Need-returns-7
 unfolding defaultUnits
 returns-7 c = cc
 
--- src/lib.rt:47:1
 returns-8 : tie.Need-returns-8
 unfolding defaultUnits
 returns-8 c = simp (ne-eqb _ _ (c .match .rest .0 .0 .0 .0 .0 .0 .1), ne-eqb _ _ (c .match .rest .0 .0 .0 .0 .0 .1), ne-eqb _ _ (c .match .rest .0 .0 .0 .0 .1), ne-eqb _ _ (c .match .rest .0 .0 .0 .1), ne-eqb _ _ (c .match .rest .0 .0 .1), ne-eqb _ _ (c .match .rest .0 .1), ne-eqb _ _ (c .match .rest .1))

@@ -1,66 +1,53 @@
+-- `parameters::parameter_id` meets its contract. Assumes nothing.
 use borrow.Author.Tests.{ne-eqb}
 use Rattle.parameters.specs.Parameters.{idOf}
 use Rattle.parameters.proofs.parameter_id.Statement.{statement}
 use Rattle.parameters.proofs.parameter_id.Tie as tie
-use Rattle.parameters.proofs.parameter_id.Reads as reads
-use Rattle.parameters.proofs.parameter_id.Lts as lts
 
--- src/lib.rt:19:1
 returns : tie.Need-returns
 unfolding idOf
 returns c = cc
 
--- src/lib.rt:19:1
 returns-2 : tie.Need-returns-2
 unfolding idOf
 returns-2 c = cc
 
--- src/lib.rt:19:1
 returns-3 : tie.Need-returns-3
 unfolding idOf
 returns-3 c = cc
 
--- src/lib.rt:19:1
 returns-4 : tie.Need-returns-4
 unfolding idOf
 returns-4 c = simp (c .before .match .keys1, ne-eqb _ _ (c .match2 .rest .0 .0 .1), ne-eqb _ _ (c .match2 .rest .0 .1), ne-eqb _ _ (c .match2 .rest .1))
 
--- src/lib.rt:19:1
 returns-5 : tie.Need-returns-5
 unfolding idOf
 returns-5 c = cc
 
--- src/lib.rt:19:1
 returns-6 : tie.Need-returns-6
 unfolding idOf
 returns-6 c = simp (c .before .match .keys2, ne-eqb _ _ (c .match3 .rest .1))
 
--- src/lib.rt:19:1
 returns-7 : tie.Need-returns-7
 unfolding idOf
 returns-7 c = cc
 
--- src/lib.rt:19:1
 returns-8 : tie.Need-returns-8
 unfolding idOf
 returns-8 c = cc
 
--- src/lib.rt:19:1
 returns-9 : tie.Need-returns-9
 unfolding idOf
 returns-9 c = simp (c .before .match .keys3, ne-eqb _ _ (c .match4 .rest .0 .1), ne-eqb _ _ (c .match4 .rest .1))
 
--- src/lib.rt:19:1
 returns-10 : tie.Need-returns-10
 unfolding idOf
 returns-10 c = cc
 
--- src/lib.rt:19:1
 returns-11 : tie.Need-returns-11
 unfolding idOf
 returns-11 c = simp (c .before .match .keys4, ne-eqb _ _ (c .match5 .rest .1))
 
--- src/lib.rt:19:1
 returns-12 : tie.Need-returns-12
 unfolding idOf
 returns-12 c = simp (ne-eqb _ _ (c .match .rest .0 .0 .0 .1), ne-eqb _ _ (c .match .rest .0 .0 .1), ne-eqb _ _ (c .match .rest .0 .1), ne-eqb _ _ (c .match .rest .1))

@@ -1,46 +1,37 @@
+-- `parameters::units_allowed` meets its contract. Assumes nothing.
 use borrow.Author.Tests.{ne-eqb}
 use Rattle.parameters.specs.Parameters.{unitsAllowed}
 use Rattle.parameters.proofs.units_allowed.Statement.{statement}
 use Rattle.parameters.proofs.units_allowed.Tie as tie
-use Rattle.parameters.proofs.units_allowed.Reads as reads
-use Rattle.parameters.proofs.units_allowed.Lts as lts
 
--- src/lib.rt:63:1
 returns : tie.Need-returns
 unfolding unitsAllowed
 returns c = simp (c .match .keys1)
 
--- src/lib.rt:63:1
 returns-2 : tie.Need-returns-2
 unfolding unitsAllowed
 returns-2 c = cc
 
--- src/lib.rt:63:1
 returns-3 : tie.Need-returns-3
 unfolding unitsAllowed
 returns-3 c = cc
 
--- src/lib.rt:63:1
 returns-4 : tie.Need-returns-4
 unfolding unitsAllowed
 returns-4 c = cc
 
--- src/lib.rt:63:1
 returns-5 : tie.Need-returns-5
 unfolding unitsAllowed
 returns-5 c = simp (c .match .keys5)
 
--- src/lib.rt:63:1
 returns-6 : tie.Need-returns-6
 unfolding unitsAllowed
 returns-6 c = cc
 
--- src/lib.rt:63:1
 returns-7 : tie.Need-returns-7
 unfolding unitsAllowed
 returns-7 c = cc
 
--- src/lib.rt:63:1
 returns-8 : tie.Need-returns-8
 unfolding unitsAllowed
 returns-8 c = simp (ne-eqb _ _ (c .match .rest .0 .0 .0 .0 .0 .0 .1), ne-eqb _ _ (c .match .rest .0 .0 .0 .0 .0 .1), ne-eqb _ _ (c .match .rest .0 .0 .0 .0 .1), ne-eqb _ _ (c .match .rest .0 .0 .0 .1), ne-eqb _ _ (c .match .rest .0 .0 .1), ne-eqb _ _ (c .match .rest .0 .1), ne-eqb _ _ (c .match .rest .1))

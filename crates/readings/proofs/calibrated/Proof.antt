@@ -1,15 +1,12 @@
+-- `readings::calibrated` meets its contract. Assumes nothing.
 use Rattle.readings.specs.Readings.{calibratedOf}
 use Rattle.readings.proofs.calibrated.Statement.{statement}
 use Rattle.readings.proofs.calibrated.Tie as tie
-use Rattle.readings.proofs.calibrated.Reads as reads
-use Rattle.readings.proofs.calibrated.Lts as lts
 
--- src/lib.rt:21:9
 returns : tie.Need-returns
 unfolding calibratedOf
 returns c = simp (c .if1 .taken)
 
--- src/lib.rt:16:1
 returns-2 : tie.Need-returns-2
 unfolding calibratedOf
 returns-2 c = simp (c .before .before .before .if1 .left)

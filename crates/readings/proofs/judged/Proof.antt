@@ -1,26 +1,21 @@
+-- `readings::judged` meets its contract. Assumes nothing.
 use borrow.Author.Tests.{not-false, not-true}
 use Rattle.readings.specs.Readings.{judgedReading}
 use Rattle.readings.proofs.judged.Statement.{statement}
 use Rattle.readings.proofs.judged.Tie as tie
-use Rattle.readings.proofs.judged.Reads as reads
-use Rattle.readings.proofs.judged.Lts as lts
 
--- src/lib.rt:129:9
 returns : tie.Need-returns
 unfolding judgedReading
 returns c = simp (not-true (c .before .args .present) (c .if1 .taken))
 
--- src/lib.rt:135:9
 returns-2 : tie.Need-returns-2
 unfolding judgedReading
 returns-2 c = simp (not-false (c .before .before .args .present) (c .before .if1 .left), not-true (c .before .before .args .good) (c .if2 .taken))
 
--- src/lib.rt:141:9
 returns-3 : tie.Need-returns-3
 unfolding judgedReading
 returns-3 c = simp (not-false (c .before .before .before .args .present) (c .before .before .if1 .left), not-false (c .before .before .before .args .good) (c .before .if2 .left), c .if3 .taken)
 
--- src/lib.rt:125:1
 returns-4 : tie.Need-returns-4
 unfolding judgedReading
 returns-4 c = simp (not-false (c .before .before .before .args .present) (c .before .before .if1 .left), not-false (c .before .before .before .args .good) (c .before .if2 .left), c .if3 .left)

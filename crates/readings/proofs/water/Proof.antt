@@ -1,13 +1,11 @@
+-- `readings::water` meets its contract. Assumes nothing.
 use lib.Ieee.{div, mul, ofBits}
 use borrow.Author.Needs.{needs}
 use Rattle.readings.specs.Readings.{height}
 use Rattle.floats.specs.Floats.{near}
 use Rattle.readings.proofs.water.Statement.{statement}
 use Rattle.readings.proofs.water.Tie as tie
-use Rattle.readings.proofs.water.Reads as reads
-use Rattle.readings.proofs.water.Lts as lts
 
--- src/lib.rt:37:1
 returns : tie.Need-returns
 unfolding height div mul ofBits near
 returns c = search needs

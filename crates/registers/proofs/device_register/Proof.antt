@@ -1,67 +1,46 @@
+-- `registers::device_register` meets its contract. Assumes nothing.
 use borrow.Author.Tests.{ne-eqb}
 use Rattle.registers.specs.Registers.{deviceRegister}
 use borrow.Author.Needs.{needs}
 use Rattle.registers.proofs.device_register.Statement.{statement}
 use Rattle.registers.proofs.device_register.Tie as tie
-use Rattle.registers.proofs.device_register.Reads as reads
-use Rattle.registers.proofs.device_register.Lts as lts
-use Rattle.registers.proofs.high.Reads as high-reads
-use Rattle.registers.proofs.low.Reads as low-reads
 
--- src/lib.rt:155:14
-high-requires : tie.Need-high-requires
-high-requires c κs = search needs
-
--- src/lib.rt:156:14
-low-requires : tie.Need-low-requires
-low-requires c κs = search needs
-
--- src/lib.rt:149:1
 returns : tie.Need-returns
 unfolding deviceRegister
 returns c = cc
 
--- src/lib.rt:149:1
 returns-2 : tie.Need-returns-2
 unfolding deviceRegister
 returns-2 c = cc
 
--- src/lib.rt:149:1
 returns-3 : tie.Need-returns-3
 unfolding deviceRegister
 returns-3 c = cc
 
--- src/lib.rt:149:1
 returns-4 : tie.Need-returns-4
 unfolding deviceRegister
 returns-4 c = cc
 
--- src/lib.rt:149:1
 returns-5 : tie.Need-returns-5
 unfolding deviceRegister
 returns-5 c = cc
 
--- src/lib.rt:149:1
 returns-6 : tie.Need-returns-6
 unfolding deviceRegister
 returns-6 c = cc
 
--- src/lib.rt:149:1
 returns-7 : tie.Need-returns-7
 unfolding deviceRegister
 returns-7 c = cc
 
--- src/lib.rt:149:1
 returns-8 : tie.Need-returns-8
 unfolding deviceRegister
 returns-8 c = cc
 
--- src/lib.rt:149:1
 returns-9 : tie.Need-returns-9
 unfolding deviceRegister
 returns-9 c = cc
 
--- src/lib.rt:149:1
 returns-10 : tie.Need-returns-10
 unfolding deviceRegister
 returns-10 c = simp (ne-eqb _ _ (c .match .rest .0 .0 .0 .0 .0 .0 .0 .0 .1), ne-eqb _ _ (c .match .rest .0 .0 .0 .0 .0 .0 .0 .1), ne-eqb _ _ (c .match .rest .0 .0 .0 .0 .0 .0 .1), ne-eqb _ _ (c .match .rest .0 .0 .0 .0 .0 .1), ne-eqb _ _ (c .match .rest .0 .0 .0 .0 .1), ne-eqb _ _ (c .match .rest .0 .0 .0 .1), ne-eqb _ _ (c .match .rest .0 .0 .1), ne-eqb _ _ (c .match .rest .0 .1), ne-eqb _ _ (c .match .rest .1))
@@ -70,8 +49,8 @@ pub device-register-spec : {M : Type 1} → statement M
 device-register-spec =
     tie.close
     (tie.spec
-    high-requires
-    low-requires
+    (λ c κs. search needs)
+    (λ c κs. search needs)
     returns
     returns-2
     returns-3

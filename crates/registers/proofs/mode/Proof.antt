@@ -1,15 +1,12 @@
+-- `registers::mode` meets its contract. Assumes nothing.
 use Rattle.registers.specs.Registers.{modeOf}
 use Rattle.registers.proofs.mode.Statement.{statement}
 use Rattle.registers.proofs.mode.Tie as tie
-use Rattle.registers.proofs.mode.Reads as reads
-use Rattle.registers.proofs.mode.Lts as lts
 
--- src/lib.rt:40:9
 returns : tie.Need-returns
 unfolding modeOf
 returns c = simp (c .if1 .taken)
 
--- src/lib.rt:35:1
 returns-2 : tie.Need-returns-2
 unfolding modeOf
 returns-2 c = simp (c .if1 .left)
