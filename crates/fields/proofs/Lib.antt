@@ -1,1 +1,3 @@
+pub mod Computed
 pub mod Search
+pub mod Table
