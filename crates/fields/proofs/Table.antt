@@ -11,6 +11,7 @@ use Rattle.fields.specs.Fields.{fields, owns, holds}
 use Rattle.fields.proofs.Search.{noField, unowned}
 use Rattle.fields.proofs.Computed.{both, other, every, everyTwo, below, at-row, at-two, at-number}
 
+-- a row by its index
 abbrev pub row : ℕ → Field
 row i = getD fields i noField
 

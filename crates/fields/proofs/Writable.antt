@@ -1,16 +1,18 @@
 -- Which rows of the table can be written: their offsets, and whose they are. Assumes nothing.
 use mathlib.Core.Path.{_≡_, refl, sym, _∙_}
-use mathlib.Core.Bool.{Bool, true, false, _&&_, _||_, not, Bool·beq}
+use mathlib.Core.Bool.{Bool, true, false, _&&_, _||_, not, Bool·beq, false≢true}
 use mathlib.Core.List.{List, [], _∷_}
-use Prim.Native.Nat.{ℕ, _<_, _≤_}
+use Prim.Native.Nat.{ℕ, _/_, _<_, _≤_}
 use native.Mathlib.Omega.{arith}
 use lib.Dec.{eqb, ltb}
-use borrow.Author.Tests.{eq-eqb, ne-eqb, ltb-true, ltb-false, not-true}
+use borrow.Author.Tests.{eqb-true, eq-eqb, ne-eqb, ltb-true, ltb-false, not-true}
 use Rattle.fields.specs.declared.Field.{Field}
-use Rattle.fields.specs.Fields.{fields, owns}
+use Rattle.fields.specs.declared.Found.the-variants.{Row}
+use Rattle.fields.specs.Fields.{fields, owns, fieldAt}
 use Rattle.fields.proofs.Search.{unowned}
 use Rattle.fields.proofs.Computed.{both, other, given, beq-true, every, below, at-row, at-number}
 use Rattle.fields.proofs.Table.{row}
+use Rattle.fields.proofs.Registers.{found-row, found-rule, found-held}
 
 abbrev among : ℕ → List ℕ → Bool
 among x [] = false
@@ -74,3 +76,20 @@ level-rows i owner h o a = go (ltb owner 5) refl
     go : (b : Bool) → ltb owner 5 ≡ b → owns f owner ≡ eqb owner 3
     go true q = beq-true _ _ (given (eqb (f .offset) 40 && eqb (f .access) 1) _ (at-number (levelled f) 5 (at-row (λ f. below (levelled f) 5) fields all-levelled i h) owner (ltb-true owner 5 q)) is)
     go false q = let l : 5 ≤ owner = ltb-false owner 5 q in unowned f owner l ∙ sym (ne-eqb owner 3 (λ e. omega arith))
+
+-- ---- of a register
+
+-- a register that can be written is a sensor's
+pub written-sensor : (r : ℕ) (f : Field) → fieldAt r ≡ Row f → (f .access ≡ 0 → ⊥) → (1 ≤ r / 100) × (r / 100 ≤ 4)
+written-sensor r f e a =
+    let s = found-row r f e .1 in
+    let o : owns f (r / 100) ≡ true = found-held r f e .owned in
+    let d : owns f 0 ≡ false = found-rule (λ g. (g .access ≡ 0 → ⊥) → owns g 0 ≡ false) (λ i h k. writable-rows i h k .1) r f e a in
+    let n : r / 100 ≡ 0 → ⊥ = λ z. false≢true (sym d ∙ rw z at o) in
+    (omega arith, omega arith)
+
+-- a register of the id that can be written is sensor 3's
+pub level-register : (r : ℕ) (f : Field) → fieldAt r ≡ Row f → f .offset ≡ 40 → f .access ≡ 1 → r / 100 ≡ 3
+level-register r f e o a =
+    let is : owns f (r / 100) ≡ eqb (r / 100) 3 = found-rule (λ g. g .offset ≡ 40 → g .access ≡ 1 → owns g (r / 100) ≡ eqb (r / 100) 3) (λ i h. level-rows i (r / 100) h) r f e o a in
+    eqb-true (r / 100) 3 (sym is ∙ found-held r f e .owned)
