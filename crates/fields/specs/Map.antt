@@ -1,7 +1,7 @@
 -- The registers that document 01's map names, range by range, with no look at the table of fields. Document 01, "Register map".
 -- Assumes nothing.
-use mathlib.Core.Bool.{Bool, false, _&&_, _||_, not, cond}
-use Prim.Native.Nat.{ℕ, _+_, _*_, _/_, _%_}
+use mathlib.Core.Bool.{Bool, _&&_, _||_, not, cond}
+use Prim.Native.Nat.{ℕ, _/_, _%_}
 use lib.Dec.{eqb, leb, ltb}
 
 abbrev between : ℕ → ℕ → ℕ → Bool

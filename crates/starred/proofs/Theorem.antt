@@ -5,10 +5,11 @@ use Rattle.rtu.specs.Crc.{crcBit, crcBits, crcByte, crcFrom, crcOf}
 use Rattle.floats.specs.Floats.{near, minus, finite, isPlusZero}
 use Rattle.calibration.specs.Coefficients.{allFinite, inLimits}
 use Rattle.calibration.specs.Methods.{candidateOf, verdictOf, judgedOf}
+use Rattle.journal.specs.Words.{capacityOf}
 use Rattle.starred.specs.Starred.{Starred, worked, told}
 
 pub starred : Starred
-unfolding crcBit crcBits crcByte crcFrom crcOf ofBits toBits round sub mul div le eq near minus finite isPlusZero allFinite inLimits candidateOf verdictOf judgedOf worked told
+unfolding crcBit crcBits crcByte crcFrom crcOf ofBits toBits round sub mul div le eq near minus finite isPlusZero allFinite inLimits candidateOf verdictOf judgedOf worked told capacityOf
 starred =
     record {
       crc-of-digits = refl;
@@ -20,4 +21,5 @@ starred =
       past-the-limit = refl;
       one-point = refl;
       minus-zero = refl;
+      one-entry-fits = refl;
     }

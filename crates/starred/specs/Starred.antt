@@ -13,6 +13,7 @@ use Rattle.calibration.specs.declared.methods.Candidate.{Candidate}
 use Rattle.calibration.specs.declared.methods.Candidate.the-variants.{Made, ZeroX, SameX}
 use Rattle.calibration.specs.declared.methods.Verdict.{Verdict}
 use Rattle.calibration.specs.declared.methods.Verdict.the-variants.{Accepted, OutsideLimits, NotFinite, Undefined}
+use Rattle.journal.specs.Words.{capacityOf}
 
 -- the bits of coefficients
 abbrev pub bits : Coefficients → List ℕ
@@ -52,3 +53,5 @@ pub record Starred : Type 0 where
   pub one-point : told (judgedOf 1 (OnePoint (whole 1000) (whole 1250))) ≡ 0 ∷ 0 ∷ 0x3FA00000 ∷ 0 ∷ []
   -- "One point, x1 = -0.0: 0x97"
   pub minus-zero : told (judgedOf 1 (OnePoint (ofBits binary32 0x80000000) (whole 1250))) ≡ 0x97 ∷ []
+  -- "88 words: capacity 1"
+  pub one-entry-fits : capacityOf 88 ≡ 1

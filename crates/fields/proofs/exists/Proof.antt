@@ -1,3 +1,4 @@
+-- `fields::exists` meets its contract. Assumes nothing.
 use borrow.Author.Needs.{needs}
 use Rattle.fields.proofs.exists.Statement.{statement}
 use Rattle.fields.proofs.exists.Tie as tie

@@ -1,3 +1,4 @@
+-- `fields::held` meets its contract. Assumes nothing.
 use borrow.Author.Tests.{le-ltb, lt-ltb}
 use Rattle.fields.specs.Fields.{holds}
 use borrow.Author.Needs.{needs}

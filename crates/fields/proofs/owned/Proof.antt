@@ -1,3 +1,4 @@
+-- `fields::owned` meets its contract. Assumes nothing.
 use borrow.Author.Tests.{ne-eqb}
 use Rattle.fields.specs.Fields.{owns}
 use Rattle.fields.proofs.owned.Statement.{statement}

@@ -1,3 +1,4 @@
+-- `fields::whole_field` meets its contract. Assumes nothing.
 use borrow.Author.Tests.{eq-eqb, ne-eqb}
 use Rattle.fields.specs.Fields.{whole}
 use borrow.Author.Needs.{needs}
