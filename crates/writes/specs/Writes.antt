@@ -88,7 +88,7 @@ pointAt p offset x =
     (cond (eqb offset 20) (points (p .x1) (p .y1) x (p .y2)) (points (p .x1) (p .y1) (p .x2) x)))
 
 abbrev pub pointStored : Setup → ℕ → FloatOf → Written
-pointStored s offset (Finite x) = Stored (setup (s .calibrating) (s .active) (s .trial) (s .method) (withPoints (s .points) offset x) (s .next) (s .level) (s .first) (s .second) (s .third))
+pointStored s offset (Finite x) = Stored (withPoints s (pointAt (s .points) offset x))
 pointStored s offset NotFinite = Refused 0x84
 
 unfoldable pub pointWritten : Setup → ℕ → ℕ → ℕ → Written
