@@ -7,7 +7,6 @@ use lib.Dec.{T, eqb}
 use lib.Ieee.{Float, binary32, fits}
 use borrow.Author.Tests.{eqb-true}
 use Rattle.floats.specs.Floats.{finite}
-use Rattle.floats.proofs.Bools.{both}
 use Rattle.calibration.specs.Coefficients.{allFinite, inLimits}
 use Rattle.calibration.specs.declared.coefficients.Coefficients.{Coefficients}
 use Rattle.calibration.specs.declared.methods.Points.{Points}
@@ -15,13 +14,12 @@ use Rattle.calibration.proofs.Bits.{CoefficientsFit}
 use Rattle.calibration.proofs.Candidates.{PointsFit}
 use Rattle.entries.specs.Entries.{methodAllowed, pointsFinite}
 use Rattle.parameters.specs.Parameters.{idOf, unitsAllowed, levelAllowed}
-use Rattle.sensors.specs.Sensors.{parameterOf, unitsValid, levelValid, sentinelsFinite, validSetup, validSensor}
+use Rattle.sensors.specs.Sensors.{unitsValid, levelValid, sentinelsFinite, validSetup, validSensor}
 use Rattle.sensors.specs.Changes.{setup, restarted, calibratedAt, withNext, withMethod, withTrial, withPoints, withLevel, withParameter, sample, measuredOf}
 use Rattle.sensors.specs.declared.Parameter.{Parameter}
 use Rattle.sensors.specs.declared.Setup.{Setup}
-use Rattle.sensors.specs.declared.Sample.{Sample}
 use Rattle.sensors.specs.declared.Sensor.{Sensor}
-use Rattle.sensors.proofs.Setups.{ValidSetup, SetupFits, valid-setup-parts, valid-setup, valid-sensor-parts, zero-points, zero-points-fit, direct-allowed}
+use Rattle.sensors.proofs.Setups.{ValidSetup, SetupFits, valid-setup-parts, valid-setup, valid-sensor-parts, sentinels-each, zero-points, zero-points-fit, direct-allowed}
 
 -- what a frame writes beside the parameters: mode, trial coefficients, method, points, next calibration and level
 abbrev changed : Setup → Bool → Coefficients → ℕ → Points → ℕ → ℕ → Setup
@@ -123,10 +121,7 @@ module _ (s : ℕ) (x : Setup) (h : validSetup s x ≡ true) where
       v = valid-setup-parts s x h
 
       sentinels : (finite (x .first .sentinel) ≡ true) × (finite (x .second .sentinel) ≡ true) × (finite (x .third .sentinel) ≡ true)
-      sentinels =
-          let t = both (finite (x .first .sentinel) && finite (x .second .sentinel)) (finite (x .third .sentinel)) (v .sentinels-finite) in
-          let u = both (finite (x .first .sentinel)) (finite (x .second .sentinel)) (t .0) in
-          (u .0, u .1, t .1)
+      sentinels = sentinels-each x (v .sentinels-finite)
 
       with : (a b c : Parameter) → unitsValid s 1 (a .units) ≡ true → unitsValid s 2 (b .units) ≡ true → unitsValid s 3 (c .units) ≡ true
           → finite (a .sentinel) ≡ true → finite (b .sentinel) ≡ true → finite (c .sentinel) ≡ true
@@ -161,6 +156,20 @@ units-listed s k units u = go (eqb (idOf s k) 0)
     go : (b : Bool) → cond b true (unitsAllowed (idOf s k) units) ≡ true
     go true = refl
     go false = u
+
+-- what doesn't look at the parameters stays where one is replaced
+pub apart : {A : Type 0} (g : Setup → A) (x : Setup) (k : ℕ) (p : Parameter)
+    → ((a b c : Parameter) → g (setup (x .calibrating) (x .active) (x .trial) (x .method) (x .points) (x .next) (x .level) a b c) ≡ g x)
+    → g (withParameter x k p) ≡ g x
+unfolding withParameter
+apart g x k p h = go (eqb k 1) (eqb k 2)
+  where
+    go : (i j : Bool) → g (cond i (setup (x .calibrating) (x .active) (x .trial) (x .method) (x .points) (x .next) (x .level) p (x .second) (x .third))
+        (cond j (setup (x .calibrating) (x .active) (x .trial) (x .method) (x .points) (x .next) (x .level) (x .first) p (x .third))
+        (setup (x .calibrating) (x .active) (x .trial) (x .method) (x .points) (x .next) (x .level) (x .first) (x .second) p))) ≡ g x
+    go true j = h p (x .second) (x .third)
+    go false true = h (x .first) p (x .third)
+    go false false = h (x .first) (x .second) p
 
 -- a measurement of finite raws, of those that it reads, keeps a sensor valid
 pub measured-valid : (s : ℕ) (x : Sensor) (present : Bool) (first second : Float) → validSensor s x ≡ true

@@ -15,7 +15,7 @@ use Rattle.calibration.proofs.Limits.{limits-finite, sensor-cases, defaults-in-
 use Rattle.calibration.proofs.Candidates.{PointsFit}
 use Rattle.entries.specs.Entries.{methodAllowed, pointsFinite}
 use Rattle.parameters.specs.Parameters.{idOf, defaultUnits, unitsAllowed, levelAllowed}
-use Rattle.sensors.specs.Sensors.{freshParameter, freshSetup, freshSensor, unitsValid, levelValid, sentinelsFinite, validSetup, validSensor}
+use Rattle.sensors.specs.Sensors.{parameterOf, freshParameter, freshSetup, freshSensor, unitsValid, levelValid, sentinelsFinite, validSetup, validSensor}
 use Rattle.sensors.specs.declared.Setup.{Setup}
 use Rattle.sensors.specs.declared.Sensor.{Sensor}
 
@@ -102,6 +102,47 @@ valid-sensor-parts s x h =
     let t = both (validSetup s (x .setup) && finite (x .sample .first)) (finite (x .sample .second)) h in
     let u = both (validSetup s (x .setup)) (finite (x .sample .first)) (t .0) in
     (u .0, u .1, t .1)
+
+-- ---- parameters
+
+-- finite sentinels are finite each
+pub sentinels-each : (x : Setup) → sentinelsFinite x ≡ true
+    → (finite (x .first .sentinel) ≡ true) × (finite (x .second .sentinel) ≡ true) × (finite (x .third .sentinel) ≡ true)
+unfolding sentinelsFinite
+sentinels-each x h =
+    let t = both (finite (x .first .sentinel) && finite (x .second .sentinel)) (finite (x .third .sentinel)) h in
+    let u = both (finite (x .first .sentinel)) (finite (x .second .sentinel)) (t .0) in
+    (u .0, u .1, t .1)
+
+-- the sentinel of a valid setup's parameter is finite
+pub sentinel-finite : (s : ℕ) (x : Setup) (k : ℕ) → validSetup s x ≡ true → finite (parameterOf x k .sentinel) ≡ true
+unfolding parameterOf
+sentinel-finite s x k h = go (sentinels-each x (valid-setup-parts s x h .sentinels-finite)) (eqb k 1) (eqb k 2)
+  where
+    go : (finite (x .first .sentinel) ≡ true) × (finite (x .second .sentinel) ≡ true) × (finite (x .third .sentinel) ≡ true) → (a b : Bool)
+        → finite ((cond a (x .first) (cond b (x .second) (x .third))) .sentinel) ≡ true
+    go t true b = t .0
+    go t false true = t .1
+    go t false false = t .2
+
+-- the units of a valid setup's parameter are valid
+pub parameter-units : (s : ℕ) (x : Setup) (k : ℕ) → 1 ≤ k → k ≤ 3 → validSetup s x ≡ true → unitsValid s k (parameterOf x k .units) ≡ true
+unfolding parameterOf
+parameter-units s x (suc zero) l m h = valid-setup-parts s x h .first-units
+parameter-units s x (suc (suc zero)) l m h = valid-setup-parts s x h .second-units
+parameter-units s x (suc (suc (suc zero))) l m h = valid-setup-parts s x h .third-units
+parameter-units s x zero l m h = absurd (omega arith)
+parameter-units s x (suc (suc (suc (suc k)))) l m h = absurd (omega arith)
+
+-- the sentinel of a parameter fits the format
+pub sentinel-fits : (x : Setup) (k : ℕ) → SetupFits x → T (fits binary32 (parameterOf x k .sentinel))
+unfolding parameterOf
+sentinel-fits x k v = go (eqb k 1) (eqb k 2)
+  where
+    go : (a b : Bool) → T (fits binary32 ((cond a (x .first) (cond b (x .second) (x .third))) .sentinel))
+    go true b = v .fits-first
+    go false true = v .fits-second
+    go false false = v .fits-third
 
 -- ---- fresh
 
