@@ -1,50 +1,31 @@
+use native.Mathlib.Omega.{arith}
+use borrow.Author.Needs.{needs}
+use Prim.Native.Nat.{_≤_, _<_, _-_, _/_, _%_}
+use mathlib.Core.Path.{_≡_, refl, sym, _∙_}
+use lib.ListN.{drop}
+use Rattle.fields.specs.Fields.{fieldAt, findIn, fields}
+use Rattle.fields.proofs.Search.{hit, miss}
 use Rattle.fields.proofs.field_at.Statement.{statement}
 use Rattle.fields.proofs.field_at.Tie as tie
-use Rattle.fields.proofs.field_at.Reads as reads
-use Rattle.fields.proofs.field_at.Lts as lts
-use Rattle.fields.proofs.held.Reads as held-reads
 
 abbrev Inv-loop : tie.InvT-loop
-Inv-loop register owner offset i₀ i = ?
+Inv-loop register owner offset i₀ i = (i ≤ 40) × (fieldAt register ≡ findIn (drop i fields) (register / 100) (register % 100))
 
 abbrev μ-loop : tie.MeasureT-loop
-μ-loop register owner offset i₀ i = ?
+μ-loop register owner offset i₀ i = 40 - i
 
--- src/lib.rt:333:5
 loop-holds : tie.Need-loop-holds Inv-loop μ-loop
-loop-holds c = ?
+unfolding fieldAt
+loop-holds c = (search needs, refl)
 
--- src/lib.rt:334:17
-mul-f : tie.Need-mul-f Inv-loop μ-loop
-mul-f c = ?
-
--- src/lib.rt:334:17
-array-copy-out-f : tie.Need-array-copy-out-f Inv-loop μ-loop
-array-copy-out-f c = ?
-
--- src/lib.rt:335:12
-held-requires : tie.Need-held-requires Inv-loop μ-loop
-held-requires c κs = ?
-
--- src/lib.rt:336:13
 returns : tie.Need-returns Inv-loop μ-loop
-returns c = ?
+returns c = let l = c .before .before .before .before in let a = l .before .args in sym (l .loop .inv .1 ∙ hit (l .loop .i) (a .register / 100) (a .register % 100) (search needs) (sym (c .before .held .ensures) ∙ c .if1 .taken))
 
--- src/lib.rt:338:9
-add-i : tie.Need-add-i Inv-loop μ-loop
-add-i c = ?
-
--- src/lib.rt:333:5
-loop-less : tie.Need-loop-less Inv-loop μ-loop
-loop-less c = ?
-
--- src/lib.rt:333:5
 loop-again : tie.Need-loop-again Inv-loop μ-loop
-loop-again c = ?
+loop-again c = let l = c .before .before .before .before in let a = l .before .args in (omega arith, l .loop .inv .1 ∙ miss (l .loop .i) (a .register / 100) (a .register % 100) (search needs) (sym (c .before .held .ensures) ∙ c .if1 .left))
 
--- src/lib.rt:327:1
 returns-2 : tie.Need-returns-2 Inv-loop μ-loop
-returns-2 c = ?
+returns-2 c = let e : c .before .loop .i ≡ 40 = omega arith in sym (rw e at (c .before .loop .inv .1))
 
 pub field-at-spec : {M : Type 1} → statement M
 field-at-spec =
@@ -53,11 +34,11 @@ field-at-spec =
     Inv-loop
     μ-loop
     loop-holds
-    mul-f
-    array-copy-out-f
-    held-requires
+    (λ c. omega arith)
+    (λ c. omega arith)
+    (λ c κs. search needs)
     returns
-    add-i
-    loop-less
+    (λ c. omega arith)
+    (λ c. omega arith)
     loop-again
     returns-2)

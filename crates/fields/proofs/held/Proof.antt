@@ -1,21 +1,16 @@
+use borrow.Author.Tests.{le-ltb, lt-ltb}
+use Rattle.fields.specs.Fields.{holds}
 use borrow.Author.Needs.{needs}
 use Rattle.fields.proofs.held.Statement.{statement}
 use Rattle.fields.proofs.held.Tie as tie
-use Rattle.fields.proofs.held.Reads as reads
-use Rattle.fields.proofs.held.Lts as lts
-use Rattle.fields.proofs.owned.Reads as owned-reads
 
--- src/lib.rt:321:9
 returns : tie.Need-returns
-returns c = ?
+unfolding holds
+returns c = simp (lt-ltb _ _ (c .if1 .taken))
 
--- src/lib.rt:323:5
-owned-requires : tie.Need-owned-requires
-owned-requires c κs = search needs
-
--- src/lib.rt:317:1
 returns-2 : tie.Need-returns-2
-returns-2 c = ?
+unfolding holds
+returns-2 c = simp (le-ltb _ _ (c .before .before .before .if1 .left), ← c .before .before .owned .ensures)
 
 pub held-spec : {M : Type 1} → statement M
-held-spec = tie.close (tie.spec returns owned-requires returns-2)
+held-spec = tie.close (tie.spec returns (λ c κs. search needs) returns-2)

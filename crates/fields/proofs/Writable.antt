@@ -1,0 +1,76 @@
+-- Which rows of the table can be written: their offsets, and whose they are. Assumes nothing.
+use mathlib.Core.Path.{_≡_, refl, sym, ap, _∙_}
+use mathlib.Core.Bool.{Bool, true, false, _&&_, _||_, not, Bool·beq}
+use mathlib.Core.List.{List, [], _∷_}
+use Prim.Native.Nat.{ℕ, _<_, _≤_}
+use native.Mathlib.Omega.{arith}
+use lib.Dec.{eqb, ltb}
+use borrow.Author.Tests.{eq-eqb, ne-eqb, ltb-true, ltb-false, not-true}
+use Rattle.fields.specs.declared.Field.{Field}
+use Rattle.fields.specs.Fields.{fields, owns}
+use Rattle.fields.proofs.Search.{unowned}
+use Rattle.fields.proofs.Computed.{both, other, given, beq-true, every, below, at-row, at-number}
+use Rattle.fields.proofs.Table.{row}
+
+abbrev among : ℕ → List ℕ → Bool
+among x [] = false
+among x (y ∷ ys) = eqb x y || among x ys
+
+-- the offsets that a sensor's writable fields can have
+unfoldable pub writable : ℕ → Bool
+writable offset = among offset (3 ∷ 5 ∷ 6 ∷ 10 ∷ 12 ∷ 14 ∷ 16 ∷ 18 ∷ 20 ∷ 22 ∷ 33 ∷ 35 ∷ 40 ∷ 41 ∷ 43 ∷ 49 ∷ 51 ∷ [])
+
+-- those of the fields that are writable in mode only
+unfoldable pub modal : ℕ → Bool
+modal offset = among offset (6 ∷ 10 ∷ 12 ∷ 14 ∷ 16 ∷ 18 ∷ 20 ∷ 22 ∷ [])
+
+written : Field → Bool
+written f = eqb (f .access) 0 || (writable (f .offset) && not (owns f 0))
+
+all-written : every written fields ≡ true
+unfolding written writable owns
+all-written = refl
+
+-- a row that can be written has a writable offset, and isn't the device's
+pub writable-rows : (i : ℕ) → i < 40 → (row i .access ≡ 0 → ⊥) → (writable (row i .offset) ≡ true) × (owns (row i) 0 ≡ false)
+unfolding written
+writable-rows i h k =
+    let f = row i in
+    let t = other (eqb (f .access) 0) (writable (f .offset) && not (owns f 0)) (ne-eqb (f .access) 0 k) (at-row written fields all-written i h) in
+    let p = both (writable (f .offset)) (not (owns f 0)) t in
+    (p .0, not-true (owns f 0) (p .1))
+
+inMode : Field → Bool
+inMode f = not (eqb (f .access) 2) || modal (f .offset)
+
+all-in-mode : every inMode fields ≡ true
+unfolding inMode modal
+all-in-mode = refl
+
+-- a row that is writable in mode only is the method's, a coefficient's or a point's
+pub modal-rows : (i : ℕ) → i < 40 → row i .access ≡ 2 → modal (row i .offset) ≡ true
+unfolding inMode
+modal-rows i h k = given (eqb (row i .access) 2) (modal (row i .offset)) (at-row inMode fields all-in-mode i h) (eq-eqb (row i .access) 2 k)
+
+level : Field → Bool
+level f = eqb (f .offset) 40 && eqb (f .access) 1
+
+levelled : Field → ℕ → Bool
+levelled f owner = not (level f) || Bool·beq (owns f owner) (eqb owner 3)
+
+all-levelled : every (λ f. below (levelled f) 5) fields ≡ true
+unfolding levelled level owns
+all-levelled = refl
+
+-- the id that can be written is sensor 3's alone
+pub level-rows : (i owner : ℕ) → i < 40 → row i .offset ≡ 40 → row i .access ≡ 1 → owns (row i) owner ≡ eqb owner 3
+unfolding levelled level
+level-rows i owner h o a = go (ltb owner 5) refl
+  where
+    f : Field
+    f = row i
+    is : (eqb (f .offset) 40 && eqb (f .access) 1) ≡ true
+    is = rw (eq-eqb (f .offset) 40 o, eq-eqb (f .access) 1 a)
+    go : (b : Bool) → ltb owner 5 ≡ b → owns f owner ≡ eqb owner 3
+    go true q = beq-true _ _ (given (eqb (f .offset) 40 && eqb (f .access) 1) _ (at-number (levelled f) 5 (at-row (λ f. below (levelled f) 5) fields all-levelled i h) owner (ltb-true owner 5 q)) is)
+    go false q = let l : 5 ≤ owner = ltb-false owner 5 q in unowned f owner l ∙ sym (ne-eqb owner 3 (λ e. omega arith))
