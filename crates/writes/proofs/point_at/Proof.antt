@@ -2,25 +2,19 @@ use borrow.Author.Tests.{ne-eqb}
 use Rattle.writes.specs.Writes.{pointAt}
 use Rattle.writes.proofs.point_at.Statement.{statement}
 use Rattle.writes.proofs.point_at.Tie as tie
-use Rattle.writes.proofs.point_at.Reads as reads
-use Rattle.writes.proofs.point_at.Lts as lts
 
--- src/lib.rt:120:1
 returns : tie.Need-returns
 unfolding pointAt
 returns c = simp (c .match .keys1)
 
--- src/lib.rt:120:1
 returns-2 : tie.Need-returns-2
 unfolding pointAt
 returns-2 c = simp (c .match .keys2)
 
--- src/lib.rt:120:1
 returns-3 : tie.Need-returns-3
 unfolding pointAt
 returns-3 c = simp (c .match .keys3)
 
--- src/lib.rt:120:1
 returns-4 : tie.Need-returns-4
 unfolding pointAt
 returns-4 c = simp (ne-eqb _ _ (c .match .rest .0 .0 .1), ne-eqb _ _ (c .match .rest .0 .1), ne-eqb _ _ (c .match .rest .1))

@@ -3,28 +3,18 @@ use Rattle.writes.specs.Writes.{writeOf}
 use borrow.Author.Needs.{needs}
 use Rattle.writes.proofs.write.Statement.{statement}
 use Rattle.writes.proofs.write.Tie as tie
-use Rattle.writes.proofs.write.Reads as reads
-use Rattle.writes.proofs.write.Lts as lts
-use Rattle.writes.proofs.write_field.Reads as write-field-reads
 
--- src/lib.rt:230:9
 returns : tie.Need-returns
 unfolding writeOf
 returns c = simp (eq-eqb _ _ (c .if1 .taken))
 
--- src/lib.rt:233:9
 returns-2 : tie.Need-returns-2
 unfolding writeOf
 returns-2 c = simp (ne-eqb _ _ (c .before .before .if1 .left), c .if2 .taken)
 
--- src/lib.rt:235:5
-write-field-requires : tie.Need-write-field-requires
-write-field-requires c κs = search needs
-
--- src/lib.rt:217:1
 returns-3 : tie.Need-returns-3
 unfolding writeOf
 returns-3 c = simp (ne-eqb _ _ (c .before .before .before .if1 .left), c .before .if2 .left, ← c .write-field .ensures)
 
 pub write-spec : {M : Type 1} → statement M
-write-spec = tie.close (tie.spec returns returns-2 write-field-requires returns-3)
+write-spec = tie.close (tie.spec returns returns-2 (λ c κs. search needs) returns-3)

@@ -2,20 +2,15 @@ use borrow.Author.Tests.{eq-eqb, ne-eqb, not-false, not-true}
 use Rattle.sensors.specs.Changes.{measuredOf}
 use Rattle.sensors.proofs.Sample.measure.Statement.{statement}
 use Rattle.sensors.proofs.Sample.measure.Tie as tie
-use Rattle.sensors.proofs.Sample.measure.Reads as reads
-use Rattle.sensors.proofs.Sample.measure.Lts as lts
 
--- src/lib.rt:227:13
 returns : tie.Need-returns
 unfolding measuredOf
 returns c = simp (not-true (c .before .args .present) (c .if1 .taken))
 
--- src/lib.rt:222:5
 returns-2 : tie.Need-returns-2
 unfolding measuredOf
 returns-2 c = simp (not-false (c .before .before .args .present) (c .before .if1 .left), eq-eqb _ _ (c .if2 .taken))
 
--- src/lib.rt:222:5
 returns-3 : tie.Need-returns-3
 unfolding measuredOf
 returns-3 c = simp (not-false (c .before .before .args .present) (c .before .if1 .left), ne-eqb _ _ (c .if2 .left))

@@ -2,10 +2,7 @@ use borrow.Author.Needs.{needs}
 use Rattle.sensors.specs.Changes.{withLevel}
 use Rattle.sensors.proofs.Setup.with_level.Statement.{statement}
 use Rattle.sensors.proofs.Setup.with_level.Tie as tie
-use Rattle.sensors.proofs.Setup.with_level.Reads as reads
-use Rattle.sensors.proofs.Setup.with_level.Lts as lts
 
--- src/lib.rt:190:5
 returns : tie.Need-returns
 unfolding withLevel
 returns c = search needs

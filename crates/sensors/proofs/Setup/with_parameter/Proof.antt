@@ -2,20 +2,15 @@ use borrow.Author.Tests.{ne-eqb}
 use Rattle.sensors.specs.Changes.{withParameter}
 use Rattle.sensors.proofs.Setup.with_parameter.Statement.{statement}
 use Rattle.sensors.proofs.Setup.with_parameter.Tie as tie
-use Rattle.sensors.proofs.Setup.with_parameter.Reads as reads
-use Rattle.sensors.proofs.Setup.with_parameter.Lts as lts
 
--- src/lib.rt:198:5
 returns : tie.Need-returns
 unfolding withParameter
 returns c = simp (c .match .keys1)
 
--- src/lib.rt:198:5
 returns-2 : tie.Need-returns-2
 unfolding withParameter
 returns-2 c = simp (c .match .keys2)
 
--- src/lib.rt:198:5
 returns-3 : tie.Need-returns-3
 unfolding withParameter
 returns-3 c = simp (ne-eqb _ _ (c .match .rest .0 .1), ne-eqb _ _ (c .match .rest .1))

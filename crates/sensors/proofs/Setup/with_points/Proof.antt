@@ -2,10 +2,7 @@ use borrow.Author.Needs.{needs}
 use Rattle.sensors.specs.Changes.{withPoints}
 use Rattle.sensors.proofs.Setup.with_points.Statement.{statement}
 use Rattle.sensors.proofs.Setup.with_points.Tie as tie
-use Rattle.sensors.proofs.Setup.with_points.Reads as reads
-use Rattle.sensors.proofs.Setup.with_points.Lts as lts
 
--- src/lib.rt:183:5
 returns : tie.Need-returns
 unfolding withPoints
 returns c = search needs
