@@ -180,9 +180,9 @@ measured-valid s x present first second h a b = go present a b (eqb s 1) refl
   where
     go : (p : Bool) → (p ≡ true → finite first ≡ true) → (p ≡ true → s ≡ 1 → finite second ≡ true) → (q : Bool) → eqb s 1 ≡ q
         → (validSetup s (x .setup)
-          && finite ((cond p (cond q (sample p first second) (sample p first (x .sample .second))) (sample p (x .sample .first) (x .sample .second))) .first)
-          && finite ((cond p (cond q (sample p first second) (sample p first (x .sample .second))) (sample p (x .sample .first) (x .sample .second))) .second))
-          ≡ true
+        && finite ((cond p (cond q (sample p first second) (sample p first (x .sample .second))) (sample p (x .sample .first) (x .sample .second))) .first)
+        && finite ((cond p (cond q (sample p first second) (sample p first (x .sample .second))) (sample p (x .sample .first) (x .sample .second))) .second))
+        ≡ true
     go false a b q e = h
     go true a b true e = rw (valid-sensor-parts s x h .0, a refl, b refl (eqb-true s 1 e))
     go true a b false e = rw (valid-sensor-parts s x h .0, a refl, valid-sensor-parts s x h .2)

@@ -249,9 +249,7 @@ impl Sensor {
     {
         let setup = self.setup;
         let sample = self.sample;
-        setup.is_valid(sensor)
-            & floats::is_finite(sample.first)
-            & floats::is_finite(sample.second)
+        setup.is_valid(sensor) & floats::is_finite(sample.first) & floats::is_finite(sample.second)
     }
 }
 

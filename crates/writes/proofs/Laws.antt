@@ -1,8 +1,8 @@
--- What a write keeps: a valid setup valid and of the format, the coefficients in force unless it is an update; the codes of a refusal; and
--- that the journal's room matters to an update alone. Assumes nothing.
-use mathlib.Core.Path.{_≡_, refl, sym}
-use mathlib.Core.Bool.{Bool, true, false, _&&_, not, cond}
-use Prim.Native.Nat.{ℕ, _≤_}
+-- What a write keeps: a valid setup valid, one of the format of the format, and the coefficients in force unless it is an update; and the
+-- codes of a refusal. Assumes nothing.
+use mathlib.Core.Path.{_≡_, refl}
+use mathlib.Core.Bool.{Bool, true, false, _&&_, cond}
+use Prim.Native.Nat.{ℕ}
 use native.Mathlib.Omega.{arith}
 use lib.Dec.{T, eqb}
 use lib.Ieee.{Float, binary32, fits}
@@ -10,23 +10,21 @@ use Rattle.floats.specs.Floats.{finite, pattern}
 use Rattle.floats.proofs.Bools.{both}
 use Rattle.floats.proofs.Words.{float-of-finite, float-of-fits}
 use Rattle.calibration.specs.Coefficients.{coefficients, allFinite}
-use Rattle.calibration.specs.Methods.{points, judgedOf}
+use Rattle.calibration.specs.Methods.{points}
 use Rattle.calibration.specs.declared.coefficients.Coefficients.{Coefficients}
 use Rattle.calibration.specs.declared.methods.Points.{Points}
-use Rattle.calibration.specs.declared.methods.Verdict.the-variants.{Accepted}
 use Rattle.calibration.proofs.Bits.{CoefficientsFit}
-use Rattle.calibration.proofs.Candidates.{PointsFit, accepted, accepted-fits, method-fits}
+use Rattle.calibration.proofs.Candidates.{PointsFit}
 use Rattle.entries.specs.Entries.{pointsFinite}
-use Rattle.entries.specs.declared.Entry.{Entry}
 use Rattle.fields.specs.declared.Field.{Field}
 use Rattle.sensors.specs.Sensors.{validSetup}
 use Rattle.sensors.specs.Changes.{restarted, withNext, withMethod, withTrial, withPoints, withLevel}
 use Rattle.sensors.specs.declared.Setup.{Setup}
 use Rattle.sensors.proofs.Setups.{SetupFits, valid-setup-parts, sentinel-finite, parameter-units, sentinel-fits}
-use Rattle.sensors.proofs.Changed.{restarted-valid, with-next-valid, with-method-valid, with-trial-valid, with-points-valid, with-level-valid, calibrated-valid, with-parameter-valid, units-listed, apart, restarted-fits, with-next-fits, with-method-fits, with-trial-fits, with-points-fits, with-level-fits, calibrated-fits, with-parameter-fits}
-use Rattle.writes.specs.Writes.{methodSet, trialAt, pointAt, writeOf}
+use Rattle.sensors.proofs.Changed.{restarted-valid, with-next-valid, with-method-valid, with-trial-valid, with-points-valid, with-level-valid, with-parameter-valid, units-listed, apart, restarted-fits, with-next-fits, with-method-fits, with-trial-fits, with-points-fits, with-level-fits, with-parameter-fits}
+use Rattle.writes.specs.Writes.{trialAt, pointAt, writeOf}
 use Rattle.writes.specs.declared.Written.{Written}
-use Rattle.writes.specs.declared.Written.the-variants.{Refused, Stored, Updated}
+use Rattle.writes.specs.declared.Written.the-variants.{Refused, Stored}
 use Rattle.writes.proofs.Outcomes.{Code, Change, same, restart, next, method, coefficient, point, level, units, sentinel, Outcome, refused, stored, update, write-outcome, stored-change}
 
 -- ---- coefficients and points with one value replaced

@@ -15,7 +15,6 @@ use Rattle.calibration.specs.declared.coefficients.Coefficients.{Coefficients}
 use Rattle.calibration.specs.declared.methods.Verdict.{Verdict}
 use Rattle.calibration.specs.declared.methods.Verdict.the-variants.{Accepted, OutsideLimits, NotFinite as CandidateNotFinite, Undefined}
 use Rattle.entries.specs.Entries.{methodAllowed, entryOf}
-use Rattle.entries.specs.declared.Entry.{Entry}
 use Rattle.parameters.specs.Parameters.{idOf, unitsAllowed, levelAllowed}
 use Rattle.fields.specs.declared.Field.{Field}
 use Rattle.sensors.specs.Sensors.{parameterOf}

@@ -1,9 +1,9 @@
 -- The ranges of offsets that a write tells apart. Assumes nothing.
-use mathlib.Core.Path.{_≡_, refl}
-use mathlib.Core.Bool.{Bool, true, false}
+use mathlib.Core.Path.{_≡_}
+use mathlib.Core.Bool.{Bool, false}
 use Prim.Native.Nat.{ℕ, _+_, _-_, _/_, _%_, _≤_, _<_}
 use native.Mathlib.Omega.{arith}
-use lib.Dec.{eqb, leb}
+use lib.Dec.{eqb}
 use borrow.Author.Tests.{ne-eqb, le-leb, lt-leb}
 use Rattle.sensors.specs.declared.Setup.{Setup}
 use Rattle.writes.specs.Writes.{coefficientWritten, pointWritten, parameterWritten, fieldWritten}

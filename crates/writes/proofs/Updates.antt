@@ -1,10 +1,10 @@
 -- Updates: what an accepted one says, that none is refused without a reason, and that the journal's room matters to an update alone.
 -- Assumes nothing.
-use mathlib.Core.Path.{_≡_, refl, sym, subst, _∙_}
+use mathlib.Core.Path.{_≡_, refl, subst}
 use mathlib.Core.Bool.{Bool, true, false, _&&_, not, cond}
-use Prim.Native.Nat.{ℕ, _-_, _+_, _/_, _%_}
+use Prim.Native.Nat.{ℕ}
 use native.Mathlib.Omega.{arith}
-use lib.Dec.{eqb, leb}
+use lib.Dec.{eqb}
 use Rattle.floats.proofs.Bools.{no}
 use Rattle.calibration.specs.Coefficients.{allFinite, coefficientsOf, inLimits}
 use Rattle.calibration.specs.Methods.{pointsOf, judgedOf}
@@ -12,18 +12,18 @@ use Rattle.calibration.specs.declared.coefficients.Coefficients.{Coefficients}
 use Rattle.calibration.specs.declared.methods.Verdict.{Verdict}
 use Rattle.calibration.specs.declared.methods.Verdict.the-variants.{Accepted, OutsideLimits, NotFinite, Undefined}
 use Rattle.calibration.proofs.Candidates.{accepted, accepted-fits, method-fits}
-use Rattle.entries.specs.Entries.{methodAllowed, entryOf, validEntry, entryFits}
+use Rattle.entries.specs.Entries.{entryOf, validEntry, entryFits}
 use Rattle.entries.specs.declared.Entry.{Entry}
 use Rattle.entries.proofs.Entries.{entry-method, accepted-valid, accepted-entry-fits}
 use Rattle.fields.specs.declared.Field.{Field}
 use Rattle.sensors.specs.Sensors.{validSetup}
-use Rattle.sensors.specs.Changes.{calibratedAt, restarted}
+use Rattle.sensors.specs.Changes.{calibratedAt}
 use Rattle.sensors.specs.declared.Setup.{Setup}
 use Rattle.sensors.proofs.Setups.{SetupFits, valid-setup-parts}
 use Rattle.sensors.proofs.Changed.{calibrated-valid, calibrated-fits}
 use Rattle.writes.specs.Writes.{methodSet, judgedUpdate, updated, commanded, fieldWritten, writeOf}
 use Rattle.writes.specs.declared.Written.{Written}
-use Rattle.writes.specs.declared.Written.the-variants.{Refused, Stored, Updated}
+use Rattle.writes.specs.declared.Written.the-variants.{Refused, Updated}
 use Rattle.writes.proofs.Outcomes.{Outcome, refused, stored, update, write-outcome}
 
 -- ---- what an update says

@@ -207,7 +207,14 @@ fn write_field(
         10..=15 => write_coefficient(s, offset, high, low),
         16..=23 => write_point(s, offset, high, low),
         30..=53 => {
-            write_parameter(sensor, s, (offset - 30) / 8 + 1, (offset - 30) % 8, high, low)
+            write_parameter(
+                sensor,
+                s,
+                (offset - 30) / 8 + 1,
+                (offset - 30) % 8,
+                high,
+                low,
+            )
         }
         _ => Written::Refused(0xC2),
     }
