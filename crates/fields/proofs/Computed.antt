@@ -2,7 +2,7 @@
 use mathlib.Core.Path.{_≡_, refl, ap}
 use mathlib.Core.Bool.{Bool, true, false, _&&_, _||_, not, Bool·beq, false≢true}
 use mathlib.Core.List.{List, [], _∷_}
-use Prim.Native.Nat.{ℕ, zero, suc, _<_, _≤_}
+use Prim.Native.Nat.{ℕ, zero, suc, _<_}
 use native.Mathlib.Nat.{le-of-suc-le-suc, not-suc-le-zero}
 use native.Mathlib.Omega.{arith}
 use lib.Dec.{eqb}
@@ -46,17 +46,20 @@ abbrev pub below : (ℕ → Bool) → ℕ → Bool
 below t zero = true
 below t (suc n) = t n && below t n
 
+-- so a row of the list does
 pub at-row : (t : Field → Bool) (fs : List Field) → every t fs ≡ true → (i : ℕ) → i < length fs → t (getD fs i noField) ≡ true
 at-row t [] e i h = absurd (not-suc-le-zero h)
 at-row t (f ∷ fs) e zero h = both (t f) (every t fs) e .0
 at-row t (f ∷ fs) e (suc i) h = at-row t fs (both (t f) (every t fs) e .1) i (le-of-suc-le-suc h)
 
+-- so two rows of it do
 pub at-two : (t : Field → Field → Bool) (fs : List Field) → everyTwo t fs ≡ true → (i j : ℕ) → i < j → j < length fs → t (getD fs i noField) (getD fs j noField) ≡ true
 at-two t [] e i j h k = absurd (not-suc-le-zero k)
 at-two t (f ∷ fs) e i zero h k = absurd (not-suc-le-zero h)
 at-two t (f ∷ fs) e zero (suc j) h k = at-row (t f) fs (both (every (t f) fs) (everyTwo t fs) e .0) j (le-of-suc-le-suc k)
 at-two t (f ∷ fs) e (suc i) (suc j) h k = at-two t fs (both (every (t f) fs) (everyTwo t fs) e .1) i j (le-of-suc-le-suc h) (le-of-suc-le-suc k)
 
+-- so a number below the bound does
 pub at-number : (t : ℕ → Bool) (n : ℕ) → below t n ≡ true → (i : ℕ) → i < n → t i ≡ true
 at-number t zero e i h = absurd (not-suc-le-zero h)
 at-number t (suc n) e i h =

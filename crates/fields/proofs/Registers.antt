@@ -6,9 +6,9 @@ use mathlib.Core.List.{List, [], _∷_}
 use Prim.Native.Nat.{ℕ, zero, suc, _+_, _-_, _/_, _%_, _<_, _≤_}
 use native.Mathlib.Nat.{add-zero, le-of-suc-le-suc, not-suc-le-zero}
 use native.Mathlib.Omega.{arith}
-use lib.Dec.{eqb, leb, ltb}
+use lib.Dec.{eqb, ltb}
 use lib.ListN.{length, getD}
-use borrow.Author.Tests.{eqb-true, eq-eqb, ltb-true, ltb-false, le-ltb, lt-ltb}
+use borrow.Author.Tests.{eqb-true, eq-eqb, ltb-true, ltb-false, le-ltb}
 use Rattle.fields.specs.declared.Field.{Field}
 use Rattle.fields.specs.declared.Found.{Found}
 use Rattle.fields.specs.declared.Found.the-variants.{Row, Absent}
@@ -16,7 +16,7 @@ use Rattle.fields.specs.Fields.{fields, owns, holds, findIn, fieldAt, fo
 use Rattle.fields.specs.Map.{inMap}
 use Rattle.fields.proofs.Search.{noField, past}
 use Rattle.fields.proofs.Computed.{both, beq-true, below, at-number}
-use Rattle.fields.proofs.Table.{row, Shape, row-shape, Held, held-parts, held-of, rows-apart}
+use Rattle.fields.proofs.Table.{rowAt, Shape, row-shape, Covered, held-parts, held-of, rows-apart}
 
 -- ---- the row that is found
 
@@ -51,12 +51,12 @@ found-row r f e = (placed fields f (r / 100) (r % 100) e, go (ltb r 500) refl)
     go false q = absurd (absent (sym (past r (ltb-false r 500 q)) ∙ e))
 
 -- what holds of every row holds of the row of a register
-pub found-rule : (P : Field → Type 0) → ((i : ℕ) → i < 40 → P (row i)) → (r : ℕ) (f : Field) → fieldAt r ≡ Row f → P f
+pub found-rule : (P : Field → Type 0) → ((i : ℕ) → i < 40 → P (rowAt i)) → (r : ℕ) (f : Field) → fieldAt r ≡ Row f → P f
 found-rule P rule r f e = let p = found-row r f e .0 in subst P (p .is) (rule (p .index) (p .inside))
 
 -- the row of a register owns it and covers its offset
-pub found-held : (r : ℕ) (f : Field) → fieldAt r ≡ Row f → Held f (r / 100) (r % 100)
-found-held r f e = held-parts f (r / 100) (r % 100) (found-row r f e .0 .held)
+pub found-covered : (r : ℕ) (f : Field) → fieldAt r ≡ Row f → Covered f (r / 100) (r % 100)
+found-covered r f e = held-parts f (r / 100) (r % 100) (found-row r f e .0 .held)
 
 some : (fs : List Field) (i owner offset : ℕ) → i < length fs → holds (getD fs i noField) owner offset ≡ true → found (findIn fs owner offset) ≡ true
 some [] i owner offset h e = absurd (not-suc-le-zero h)
@@ -68,16 +68,16 @@ some (f ∷ fs) (suc i) owner offset h e = go (holds f owner offset) (some fs i 
     go false q = q
 
 -- a row that holds a register is the one that is found
-pub only-row : (i r : ℕ) → i < 40 → holds (row i) (r / 100) (r % 100) ≡ true → fieldAt r ≡ Row (row i)
+pub only-row : (i r : ℕ) → i < 40 → holds (rowAt i) (r / 100) (r % 100) ≡ true → fieldAt r ≡ Row (rowAt i)
 unfolding fieldAt
 only-row i r h e = go (findIn fields (r / 100) (r % 100)) refl (some fields i (r / 100) (r % 100) h e)
   where
-    go : (x : Found) → findIn fields (r / 100) (r % 100) ≡ x → found x ≡ true → x ≡ Row (row i)
+    go : (x : Found) → findIn fields (r / 100) (r % 100) ≡ x → found x ≡ true → x ≡ Row (rowAt i)
     go Absent q s = absurd (false≢true s)
     go (Row f) q s =
         let p = placed fields f (r / 100) (r % 100) q in
         let k : p .index ≡ i = rows-apart (p .index) i (r / 100) (r % 100) (p .inside) h (rw (p .is) (p .held)) e in
-        ap Row (sym (p .is) ∙ ap row k)
+        ap Row (sym (p .is) ∙ ap rowAt k)
 
 -- ---- the map
 
@@ -100,28 +100,30 @@ map-exact r = go (ltb r 500) refl
 -- ---- whole fields
 
 -- what a whole field is
-pub record Whole (start count : ℕ) (f : Field) : Type 0 where
+pub record Exact (start count : ℕ) (f : Field) : Type 0 where
   pub field : fieldAt start ≡ Row f
   pub begins : f .offset ≡ start % 100
   pub all : f .words ≡ count
 
 -- the registers that are one whole field begin where the field does and are as many
-pub whole-row : (start count : ℕ) (f : Field) → whole start count ≡ Row f → Whole start count f
+pub whole-row : (start count : ℕ) (f : Field) → whole start count ≡ Row f → Exact start count f
 unfolding whole
 whole-row start count f e = go (fieldAt start) refl e
   where
-    words : (g : Field) (b : Bool) → fieldAt start ≡ Row g → g .offset ≡ start % 100 → eqb (g .words) count ≡ b → cond b (Row g) Absent ≡ Row f → Whole start count f
+    words : (g : Field) (b : Bool) → fieldAt start ≡ Row g → g .offset ≡ start % 100 → eqb (g .words) count ≡ b → cond b (Row g) Absent ≡ Row f → Exact start count f
     words g true q o w e = record { field = q ∙ e; begins = ap (λ (x : Field). x .offset) (sym (same e)) ∙ o; all = ap (λ (x : Field). x .words) (sym (same e)) ∙ eqb-true _ _ w }
     words g false q o w e = absurd (absent e)
-    offset : (g : Field) (b : Bool) → fieldAt start ≡ Row g → eqb (g .offset) (start % 100) ≡ b → cond b (cond (eqb (g .words) count) (Row g) Absent) Absent ≡ Row f → Whole start count f
+
+    offset : (g : Field) (b : Bool) → fieldAt start ≡ Row g → eqb (g .offset) (start % 100) ≡ b → cond b (cond (eqb (g .words) count) (Row g) Absent) Absent ≡ Row f → Exact start count f
     offset g true q o e = words g (eqb (g .words) count) q (eqb-true _ _ o) refl e
     offset g false q o e = absurd (absent e)
-    go : (x : Found) → fieldAt start ≡ x → wholeIn (start % 100) count x ≡ Row f → Whole start count f
+
+    go : (x : Found) → fieldAt start ≡ x → wholeIn (start % 100) count x ≡ Row f → Exact start count f
     go Absent q e = absurd (absent e)
     go (Row g) q e = offset g (eqb (g .offset) (start % 100)) q refl e
 
 -- and the other way round
-pub row-whole : (start count : ℕ) (f : Field) → Whole start count f → whole start count ≡ Row f
+pub row-whole : (start count : ℕ) (f : Field) → Exact start count f → whole start count ≡ Row f
 unfolding whole
 row-whole start count f h = rw (h .field, eq-eqb (f .offset) (start % 100) (h .begins), eq-eqb (f .words) count (h .all))
 
@@ -131,10 +133,10 @@ whole-registers start count i f e h =
     let w = whole-row start count f e in
     let p = found-row start f (w .field) .0 in
     let s = found-rule Shape row-shape start f (w .field) in
-    let k = found-held start f (w .field) in
+    let k = found-covered start f (w .field) in
     let o : (start + i) / 100 ≡ start / 100 = omega arith in
-    let held : Held f ((start + i) / 100) ((start + i) % 100) = record { owned = rw o (k .owned); from = omega arith; within = omega arith } in
-    let r : fieldAt (start + i) ≡ Row (row (p .index)) = only-row (p .index) (start + i) (p .inside) (rw (p .is) (held-of held)) in
+    let held : Covered f ((start + i) / 100) ((start + i) % 100) = record { owned = rw o (k .owned); from = omega arith; within = omega arith } in
+    let r : fieldAt (start + i) ≡ Row (rowAt (p .index)) = only-row (p .index) (start + i) (p .inside) (rw (p .is) (held-of held)) in
     r ∙ ap Row (p .is)
 
 -- ---- registers that all exist

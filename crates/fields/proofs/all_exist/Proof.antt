@@ -1,4 +1,4 @@
-use Prim.Native.Nat.{_≤_, _<_, _-_, _+_}
+use Prim.Native.Nat.{_≤_, _-_, _+_}
 use mathlib.Core.Path.{_≡_, sym, ap, _∙_}
 use native.Mathlib.Nat.{add-zero, sub-zero}
 use native.Mathlib.Omega.{arith}
@@ -19,16 +19,28 @@ loop-holds : tie.Need-loop-holds Inv-loop μ-loop
 loop-holds c = (search needs, rw (add-zero, sub-zero))
 
 returns : tie.Need-returns Inv-loop μ-loop
-returns c = let l = c .before .before in let a = l .before .args in sym (l .loop .inv .1 ∙ gap (a .start) (a .count) (l .loop .i) (search needs) (ap found (past (a .start + l .loop .i) (search needs))))
+returns c =
+    let l = c .before .before in
+    let a = l .before .args in
+    sym (l .loop .inv .1 ∙ gap (a .start) (a .count) (l .loop .i) (search needs) (ap found (past (a .start + l .loop .i) (search needs))))
 
 returns-2 : tie.Need-returns-2 Inv-loop μ-loop
-returns-2 c = let l = c .before .before .before .before in let a = l .before .args in sym (l .loop .inv .1 ∙ gap (a .start) (a .count) (l .loop .i) (search needs) (sym (c .before .exists .ensures) ∙ not-true _ (c .if2 .taken)))
+returns-2 c =
+    let l = c .before .before .before .before in
+    let a = l .before .args in
+    sym (l .loop .inv .1 ∙ gap (a .start) (a .count) (l .loop .i) (search needs) (sym (c .before .exists .ensures) ∙ not-true _ (c .if2 .taken)))
 
 loop-again : tie.Need-loop-again Inv-loop μ-loop
-loop-again c = let l = c .before .before .before .before in let a = l .before .args in (omega arith, l .loop .inv .1 ∙ more (a .start) (a .count) (l .loop .i) (search needs) (sym (c .before .exists .ensures) ∙ not-false _ (c .if2 .left)))
+loop-again c =
+    let l = c .before .before .before .before in
+    let a = l .before .args in
+    (omega arith, l .loop .inv .1 ∙ more (a .start) (a .count) (l .loop .i) (search needs) (sym (c .before .exists .ensures) ∙ not-false _ (c .if2 .left)))
 
 returns-3 : tie.Need-returns-3 Inv-loop μ-loop
-returns-3 c = let l = c .before in let e : l .before .args .count - l .loop .i ≡ 0 = omega arith in sym (l .loop .inv .1 ∙ rw e)
+returns-3 c =
+    let l = c .before in
+    let e : l .before .args .count - l .loop .i ≡ 0 = omega arith in
+    sym (l .loop .inv .1 ∙ rw e)
 
 pub all-exist-spec : {M : Type 1} → statement M
 all-exist-spec =

@@ -1,6 +1,6 @@
 use native.Mathlib.Omega.{arith}
 use borrow.Author.Needs.{needs}
-use Prim.Native.Nat.{_≤_, _<_, _-_, _/_, _%_}
+use Prim.Native.Nat.{_≤_, _-_, _/_, _%_}
 use mathlib.Core.Path.{_≡_, refl, sym, _∙_}
 use lib.ListN.{drop}
 use Rattle.fields.specs.Fields.{fieldAt, findIn, fields}
@@ -19,10 +19,16 @@ unfolding fieldAt
 loop-holds c = (search needs, refl)
 
 returns : tie.Need-returns Inv-loop μ-loop
-returns c = let l = c .before .before .before .before in let a = l .before .args in sym (l .loop .inv .1 ∙ hit (l .loop .i) (a .register / 100) (a .register % 100) (search needs) (sym (c .before .held .ensures) ∙ c .if1 .taken))
+returns c =
+    let l = c .before .before .before .before in
+    let r = l .before .args .register in
+    sym (l .loop .inv .1 ∙ hit (l .loop .i) (r / 100) (r % 100) (search needs) (sym (c .before .held .ensures) ∙ c .if1 .taken))
 
 loop-again : tie.Need-loop-again Inv-loop μ-loop
-loop-again c = let l = c .before .before .before .before in let a = l .before .args in (omega arith, l .loop .inv .1 ∙ miss (l .loop .i) (a .register / 100) (a .register % 100) (search needs) (sym (c .before .held .ensures) ∙ c .if1 .left))
+loop-again c =
+    let l = c .before .before .before .before in
+    let r = l .before .args .register in
+    (omega arith, l .loop .inv .1 ∙ miss (l .loop .i) (r / 100) (r % 100) (search needs) (sym (c .before .held .ensures) ∙ c .if1 .left))
 
 returns-2 : tie.Need-returns-2 Inv-loop μ-loop
 returns-2 c = let e : c .before .loop .i ≡ 40 = omega arith in sym (rw e at (c .before .loop .inv .1))
