@@ -203,30 +203,37 @@ module _ (x : Setup) (v : SetupFits x) where
         fits-third = v .fits-third;
       }
 
+  -- trial coefficients, method and points begin anew
   pub restarted-fits : (mode : Bool) → SetupFits (restarted x mode)
   unfolding restarted
   restarted-fits mode = changed-fits mode _ 0 _ (x .next) (x .level) (v .fits-active) zero-points-fit
 
+  -- a time of the next calibration
   pub with-next-fits : (next : ℕ) → SetupFits (withNext x next)
   unfolding withNext
   with-next-fits next = changed-fits (x .calibrating) _ (x .method) _ next (x .level) (v .fits-trial) (v .fits-points)
 
+  -- a method
   pub with-method-fits : (method : ℕ) → SetupFits (withMethod x method)
   unfolding withMethod
   with-method-fits method = changed-fits (x .calibrating) _ method _ (x .next) (x .level) (v .fits-trial) (v .fits-points)
 
+  -- trial coefficients of the format
   pub with-trial-fits : (trial : Coefficients) → CoefficientsFit trial → SetupFits (withTrial x trial)
   unfolding withTrial
   with-trial-fits trial t = changed-fits (x .calibrating) _ (x .method) _ (x .next) (x .level) t (v .fits-points)
 
+  -- points of the format
   pub with-points-fits : (p : Points) → PointsFit p → SetupFits (withPoints x p)
   unfolding withPoints
   with-points-fits p q = changed-fits (x .calibrating) _ (x .method) _ (x .next) (x .level) (v .fits-trial) q
 
+  -- a level
   pub with-level-fits : (level : ℕ) → SetupFits (withLevel x level)
   unfolding withLevel
   with-level-fits level = changed-fits (x .calibrating) _ (x .method) _ (x .next) level (v .fits-trial) (v .fits-points)
 
+  -- coefficients of the format become active
   pub calibrated-fits : (c : Coefficients) (clock : ℕ) → CoefficientsFit c → SetupFits (calibratedAt x c clock)
   unfolding calibratedAt
   calibrated-fits c clock t =
@@ -239,6 +246,7 @@ module _ (x : Setup) (v : SetupFits x) where
         fits-third = v .fits-third;
       }
 
+  -- a parameter with a sentinel of the format
   pub with-parameter-fits : (k : ℕ) (p : Parameter) → T (fits binary32 (p .sentinel)) → SetupFits (withParameter x k p)
   unfolding withParameter
   with-parameter-fits k p t = go (eqb k 1) (eqb k 2)

@@ -11,9 +11,11 @@ use Rattle.floats.specs.declared.FloatOf.the-variants.{Finite}
 use Rattle.floats.proofs.Bools.{no}
 use Rattle.floats.proofs.Words.{float-and-back}
 use Rattle.fields.specs.declared.Field.{Field}
-use Rattle.fields.specs.Fields.{fields}
+use Rattle.fields.specs.declared.Found.the-variants.{Row}
+use Rattle.fields.specs.Fields.{fields, fieldAt}
 use Rattle.fields.proofs.Computed.{other, beq-true, every, at-row}
-use Rattle.fields.proofs.Table.{row}
+use Rattle.fields.proofs.Table.{rowAt}
+use Rattle.fields.proofs.Registers.{found-rule}
 use Rattle.fields.proofs.Writable.{writable, writable-rows}
 use Rattle.sensors.specs.Sensors.{parameterOf}
 use Rattle.sensors.specs.Changes.{withNext, withMethod, withTrial, withPoints, withLevel, withParameter}
@@ -39,13 +41,13 @@ unfolding highWord lowWord
 bits high low x e hh hl = let b = float-and-back high low x hh hl e in omega arith
 
 module _ (s : Setup) (high low : ℕ) where
-  next-takes : Takes s (withNext s (pattern high low)) 3 high low
+  next-takes : (o : ℕ) → o ≡ 3 → Takes s (withNext s (pattern high low)) o high low
   unfolding contentOf withNext
-  next-takes = record { content = λ hh hl. refl; others = λ g n. rw (ne-eqb g 3 n); mode = refl }
+  next-takes o e = rw e (record { content = λ hh hl. refl; others = λ g n. rw (ne-eqb g 3 n); mode = refl })
 
-  method-takes : Takes s (withMethod s high) 6 high low
+  method-takes : (o : ℕ) → o ≡ 6 → Takes s (withMethod s high) o high low
   unfolding contentOf withMethod
-  method-takes = record { content = λ hh hl. refl; others = λ g n. rw (ne-eqb g 6 n); mode = refl }
+  method-takes o e = rw e (record { content = λ hh hl. refl; others = λ g n. rw (ne-eqb g 6 n); mode = refl })
 
   level-takes : (o : ℕ) → 30 ≤ o → o ≤ 53 → (o - 30) % 8 ≡ 2 → writable o ≡ true → Takes s (withLevel s high) o high low
   unfolding contentOf withLevel writable
@@ -110,18 +112,12 @@ module _ (s : Setup) (high low : ℕ) where
   units-take zero o l h i p = absurd (omega arith)
   units-take (suc (suc (suc (suc k)))) o l h i p = absurd (omega arith)
 
-  next-at : (o : ℕ) → o ≡ 3 → Takes s (withNext s (pattern high low)) o high low
-  next-at o e = rw e next-takes
-
-  method-at : (o : ℕ) → o ≡ 6 → Takes s (withMethod s high) o high low
-  method-at o e = rw e method-takes
-
 -- a value stored in a writable field other than the command
 change-takes : (sensor : ℕ) (s : Setup) (o high low : ℕ) {t : Setup} → writable o ≡ true → (o ≡ 5 → ⊥) → Change sensor s o high low t → Takes s t o high low
 change-takes n s o high low w c (same i) = absurd (c i)
 change-takes n s o high low w c (restart mode i) = absurd (c i)
-change-takes n s o high low w c (next i) = next-at s high low o i
-change-takes n s o high low w c (method i m) = method-at s high low o i
+change-takes n s o high low w c (next i) = next-takes s high low o i
+change-takes n s o high low w c (method i m) = method-takes s high low o i
 change-takes n s o high low w c (coefficient x r f) = trial-takes s high low x (bits high low x f) o (r .0) (r .1) w
 change-takes n s o high low w c (point x r f) = points-take s high low x (bits high low x f) o (r .0) (r .1) w
 change-takes n s o high low w c (level r p l) = level-takes s high low o (r .0) (r .1) p w
@@ -137,33 +133,42 @@ all-worded : every worded fields ≡ true
 unfolding worded
 all-worded = refl
 
-words-of : (i : ℕ) → i < 40 → (row i .access ≡ 0 → ⊥) → eqb (row i .words) 1 ≡ oneWord (row i .offset)
+-- a field of the map that can be written
+record Settable (f : Field) : Type 0 where
+  offset-writable : writable (f .offset) ≡ true
+  one-word : eqb (f .words) 1 ≡ oneWord (f .offset)
+
+found-settable : (r : ℕ) (f : Field) → fieldAt r ≡ Row f → (f .access ≡ 0 → ⊥) → Settable f
 unfolding worded
-words-of i h k =
-    let f = row i in
-    beq-true (eqb (f .words) 1) (oneWord (f .offset))
-    (other (eqb (f .access) 0) (Bool·beq (eqb (f .words) 1) (oneWord (f .offset))) (ne-eqb (f .access) 0 k) (at-row worded fields all-worded i h))
+found-settable = found-rule (λ f. (f .access ≡ 0 → ⊥) → Settable f) of
+  where
+    of : (i : ℕ) → i < 40 → (rowAt i .access ≡ 0 → ⊥) → Settable (rowAt i)
+    of i h k =
+        let f = rowAt i in
+        let t = other (eqb (f .access) 0) (Bool·beq (eqb (f .words) 1) (oneWord (f .offset))) (ne-eqb (f .access) 0 k) (at-row worded fields all-worded i h) in
+        record { offset-writable = writable-rows i h k .0; one-word = beq-true (eqb (f .words) 1) (oneWord (f .offset)) t }
 
-module _ (sensor : ℕ) (s : Setup) (i : ℕ) (h : i < 40) (c : row i .offset ≡ 5 → ⊥) (high low clock : ℕ) (spare : Bool) (t : Setup)
-    (e : writeOf sensor s (row i) high low clock spare ≡ Stored t) where
-  not-read-only : row i .access ≡ 0 → ⊥
+-- a write that is stored, of a field of the map other than the command
+module _ (sensor : ℕ) (s : Setup) (r : ℕ) (f : Field) (found : fieldAt r ≡ Row f) (value : f .offset ≡ 5 → ⊥) (high low clock : ℕ) (spare : Bool) (t : Setup)
+    (e : writeOf sensor s f high low clock spare ≡ Stored t) where
+  field : Settable f
   unfolding writeOf
-  not-read-only a = let r : Refused 0xC2 ≡ Stored t = rw a at e in let z : _≡_ {A = ℕ} 0 1 = cc in omega arith
+  field =
+      found-settable r f found
+      (λ a. let q : Refused 0xC2 ≡ Stored t = rw a at e in let z : _≡_ {A = ℕ} 0 1 = cc in omega arith)
 
-  takes : Takes s t (row i .offset) high low
-  takes =
-      change-takes sensor s (row i .offset) high low (writable-rows i h not-read-only .0) c
-      (stored-change (write-outcome sensor s (row i) high low clock spare) t e)
+  effect : Takes s t (f .offset) high low
+  effect = change-takes sensor s (f .offset) high low (field .offset-writable) value (stored-change (write-outcome sensor s f high low clock spare) t e)
 
-  -- a write of a field of the table, the command apart, stores the value of its word or of its two words
-  pub write-stores : high < 65536 → low < 65536 → contentOf t (row i .offset) ≡ valueOf (row i) high low
+  -- it stores the value of the field's word or of its two words
+  pub write-stores : high < 65536 → low < 65536 → contentOf t (f .offset) ≡ valueOf f high low
   unfolding valueOf
-  write-stores hh hl = rw (words-of i h not-read-only) (takes .content hh hl)
+  write-stores hh hl = rw (field .one-word) (effect .content hh hl)
 
   -- it leaves what any other field holds
-  pub write-keeps : (o : ℕ) → (o ≡ row i .offset → ⊥) → contentOf t o ≡ contentOf s o
-  write-keeps o n = takes .others o n
+  pub write-keeps : (o : ℕ) → (o ≡ f .offset → ⊥) → contentOf t o ≡ contentOf s o
+  write-keeps o n = effect .others o n
 
   -- it leaves the mode
   pub write-keeps-mode : t .calibrating ≡ s .calibrating
-  write-keeps-mode = takes .mode
+  write-keeps-mode = effect .mode
