@@ -1,7 +1,7 @@
 -- What a write of one whole field does to a sensor's setup. One definition for the frame call and for the control book. Document 01,
 -- "Calibration", "Register map" and the codes of "What is sent back": 0xC2, 0x92, 0x84, 0x97, 0xC0 in that order. Assumes nothing.
 use mathlib.Core.Bool.{Bool, true, false, _&&_, not, cond}
-use Prim.Native.Nat.{ℕ, _+_, _-_, _*_, _/_, _%_}
+use Prim.Native.Nat.{ℕ, _+_, _-_, _/_, _%_}
 use lib.Dec.{eqb, leb}
 use lib.Ieee.{Float}
 use Rattle.floats.specs.Floats.{pattern, floatOf}
@@ -15,7 +15,6 @@ use Rattle.calibration.specs.declared.methods.Method.{Method}
 use Rattle.calibration.specs.declared.methods.Verdict.{Verdict}
 use Rattle.calibration.specs.declared.methods.Verdict.the-variants.{Accepted, OutsideLimits, NotFinite as CandidateNotFinite, Undefined}
 use Rattle.entries.specs.Entries.{methodAllowed, entryOf}
-use Rattle.entries.specs.declared.Entry.{Entry}
 use Rattle.parameters.specs.Parameters.{idOf, unitsAllowed, levelAllowed}
 use Rattle.fields.specs.declared.Field.{Field}
 use Rattle.sensors.specs.Sensors.{parameterOf}
@@ -88,7 +87,7 @@ pointAt p offset x =
     (cond (eqb offset 20) (points (p .x1) (p .y1) x (p .y2)) (points (p .x1) (p .y1) (p .x2) x)))
 
 abbrev pub pointStored : Setup → ℕ → FloatOf → Written
-pointStored s offset (Finite x) = Stored (setup (s .calibrating) (s .active) (s .trial) (s .method) (withPoints (s .points) offset x) (s .next) (s .level) (s .first) (s .second) (s .third))
+pointStored s offset (Finite x) = Stored (withPoints s (pointAt (s .points) offset x))
 pointStored s offset NotFinite = Refused 0x84
 
 unfoldable pub pointWritten : Setup → ℕ → ℕ → ℕ → Written

@@ -1,5 +1,5 @@
 -- `sensors::level_valid` meets its contract. Assumes nothing.
-use borrow.Author.Tests.{ne-eqb}
+use borrow.Author.Tests.{eq-eqb, ne-eqb}
 use Rattle.sensors.specs.Sensors.{levelValid}
 use borrow.Author.Needs.{needs}
 use Rattle.sensors.proofs.level_valid.Statement.{statement}
@@ -7,7 +7,7 @@ use Rattle.sensors.proofs.level_valid.Tie as tie
 
 returns : tie.Need-returns
 unfolding levelValid
-returns c = cc
+returns c = simp (eq-eqb _ _ (c .before .if1 .taken), ← c .level-allowed .ensures)
 
 returns-2 : tie.Need-returns-2
 unfolding levelValid

@@ -6,7 +6,7 @@ use Rattle.sensors.proofs.Parameter.fresh.Tie as tie
 
 returns : tie.Need-returns
 unfolding freshParameter
-returns c = cc
+returns c = simp (← c .before .parameter-id .ensures, ← c .default-units .ensures)
 
 pub fresh-spec : {M : Type 1} → statement M
 fresh-spec = tie.close (tie.spec (λ c κs. search needs) (λ c κs. search needs) returns)

@@ -6,7 +6,7 @@ use Rattle.sensors.proofs.Sensor.is_valid.Tie as tie
 
 returns : tie.Need-returns
 unfolding validSensor
-returns c = cc
+returns c = simp (c .before .before .is-valid .ensures, c .before .is-finite .ensures, c .is-finite2 .ensures)
 
 pub is-valid-spec : {M : Type 1} → statement M
 is-valid-spec =

@@ -6,7 +6,12 @@ use Rattle.sensors.proofs.Setup.fresh.Tie as tie
 
 returns : tie.Need-returns
 unfolding freshSetup
-returns c = cc
+returns c =
+    let a = c .before in
+    let b = a .before in
+    let d = b .before in
+    let e = d .before in
+    simp (← e .defaults .ensures, d .at .ensures, ← b .fresh .ensures, ← a .fresh2 .ensures, ← c .fresh3 .ensures)
 
 pub fresh-spec : {M : Type 1} → statement M
 fresh-spec =

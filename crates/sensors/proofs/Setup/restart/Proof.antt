@@ -6,7 +6,7 @@ use Rattle.sensors.proofs.Setup.restart.Tie as tie
 
 returns : tie.Need-returns
 unfolding restarted
-returns c = cc
+returns c = simp (c .coefficients .ensures)
 
 pub restart-spec : {M : Type 1} → statement M
 restart-spec = tie.close (tie.spec (λ c κs. search needs) returns)

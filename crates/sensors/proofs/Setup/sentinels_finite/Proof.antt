@@ -6,7 +6,7 @@ use Rattle.sensors.proofs.Setup.sentinels_finite.Tie as tie
 
 returns : tie.Need-returns
 unfolding sentinelsFinite
-returns c = cc
+returns c = simp (c .before .before .is-finite .ensures, c .before .is-finite2 .ensures, c .is-finite3 .ensures)
 
 pub sentinels-finite-spec : {M : Type 1} → statement M
 sentinels-finite-spec =

@@ -1,0 +1,135 @@
+-- What a write can come to, by cases: refused by one of five codes, one value stored, or an update. Assumes nothing.
+use mathlib.Core.Path.{_≡_, refl, subst}
+use mathlib.Core.Bool.{Bool, true, false, _&&_, not, cond}
+use Prim.Native.Nat.{ℕ, _+_, _-_, _/_, _%_, _≤_}
+use native.Mathlib.Omega.{arith}
+use lib.Dec.{eqb, leb}
+use lib.Ieee.{Float}
+use borrow.Author.Tests.{eqb-true, leb-true}
+use Rattle.floats.specs.Floats.{pattern, floatOf}
+use Rattle.floats.specs.declared.FloatOf.{FloatOf}
+use Rattle.floats.specs.declared.FloatOf.the-variants.{Finite, NotFinite}
+use Rattle.floats.proofs.Bools.{both}
+use Rattle.calibration.specs.Methods.{judgedOf}
+use Rattle.calibration.specs.declared.coefficients.Coefficients.{Coefficients}
+use Rattle.calibration.specs.declared.methods.Verdict.{Verdict}
+use Rattle.calibration.specs.declared.methods.Verdict.the-variants.{Accepted, OutsideLimits, NotFinite as CandidateNotFinite, Undefined}
+use Rattle.entries.specs.Entries.{methodAllowed, entryOf}
+use Rattle.parameters.specs.Parameters.{idOf, unitsAllowed, levelAllowed}
+use Rattle.fields.specs.declared.Field.{Field}
+use Rattle.sensors.specs.Sensors.{parameterOf}
+use Rattle.sensors.specs.Changes.{restarted, calibratedAt, withNext, withMethod, withTrial, withPoints, withLevel, withParameter}
+use Rattle.sensors.specs.declared.Setup.{Setup}
+use Rattle.writes.specs.Writes.{methodSet, judgedUpdate, updated, commanded, nextWritten, methodWritten, trialAt, coefficientStored, coefficientWritten, pointAt, pointStored, pointWritten, levelWritten, unitsWritten, sentinelStored, sentinelWritten, parameterWritten, fieldWritten, writeOf}
+use Rattle.writes.specs.declared.Written.{Written}
+use Rattle.writes.specs.declared.Written.the-variants.{Refused, Stored, Updated}
+
+-- the codes that refuse a write of a whole field
+pub data Code : ℕ → Type 0 where
+  read-only : Code 0xC2
+  mode-off : Code 0x92
+  not-listed : Code 0x84
+  not-accepted : Code 0x97
+  journal-full : Code 0xC0
+
+-- a setup with the value of the field at offset o stored, and what was asked of the value
+pub data Change (sensor : ℕ) (s : Setup) (o high low : ℕ) : Setup → Type 0 where
+  same : o ≡ 5 → Change sensor s o high low s
+  restart : (mode : Bool) → o ≡ 5 → Change sensor s o high low (restarted s mode)
+  next : o ≡ 3 → Change sensor s o high low (withNext s (pattern high low))
+  method : o ≡ 6 → methodAllowed sensor high ≡ true → Change sensor s o high low (withMethod s high)
+  coefficient : (x : Float) → (10 ≤ o) × (o ≤ 15) → floatOf high low ≡ Finite x → Change sensor s o high low (withTrial s (trialAt (s .trial) o x))
+  point : (x : Float) → (16 ≤ o) × (o ≤ 23) → floatOf high low ≡ Finite x → Change sensor s o high low (withPoints s (pointAt (s .points) o x))
+  level : (30 ≤ o) × (o ≤ 53) → (o - 30) % 8 ≡ 2 → levelAllowed high ≡ true → Change sensor s o high low (withLevel s high)
+  units : (k : ℕ) → (30 ≤ o) × (o ≤ 53) → k ≡ (o - 30) / 8 + 1 → (o - 30) % 8 ≡ 3 → unitsAllowed (idOf sensor k) high ≡ true
+      → Change sensor s o high low (withParameter s k (record { units = high; sentinel = parameterOf s k .sentinel }))
+  sentinel : (k : ℕ) (x : Float) → (30 ≤ o) × (o ≤ 53) → k ≡ (o - 30) / 8 + 1 → (o - 30) % 8 ≡ 5 → floatOf high low ≡ Finite x
+      → Change sensor s o high low (withParameter s k (record { units = parameterOf s k .units; sentinel = x }))
+
+-- what a write comes to
+pub data Outcome (sensor : ℕ) (s : Setup) (o high low clock : ℕ) (spare : Bool) : Written → Type 0 where
+  refused : {code : ℕ} → Code code → Outcome sensor s o high low clock spare (Refused code)
+  stored : {t : Setup} → Change sensor s o high low t → Outcome sensor s o high low clock spare (Stored t)
+  update : (c : Coefficients) → o ≡ 5 → high ≡ 0xE001 → s .calibrating ≡ true → spare ≡ true → judgedOf sensor (methodSet s) ≡ Accepted c
+      → Outcome sensor s o high low clock spare (Updated (calibratedAt s c clock) (entryOf sensor (methodSet s) c clock))
+
+-- a choice, by both of its arms
+pub choose : (P : Written → Type 0) (b : Bool) (x y : Written) → (b ≡ true → P x) → (b ≡ false → P y) → P (cond b x y)
+choose P true x y f g = f refl
+choose P false x y f g = g refl
+
+module _ (sensor : ℕ) (s : Setup) (o high low clock : ℕ) (spare : Bool) where
+  abbrev P : Written → Type 0
+  P = Outcome sensor s o high low clock spare
+
+  judged-outcome : o ≡ 5 → high ≡ 0xE001 → s .calibrating ≡ true → (v : Verdict) → judgedOf sensor (methodSet s) ≡ v → P (judgedUpdate sensor s clock spare v)
+  judged-outcome i u m (Accepted c) e = choose P spare _ _ (λ r. update c i u m r e) (λ r. refused journal-full)
+  judged-outcome i u m (OutsideLimits c) e = refused not-accepted
+  judged-outcome i u m CandidateNotFinite e = refused not-accepted
+  judged-outcome i u m Undefined e = refused not-accepted
+
+  command-outcome : o ≡ 5 → P (commanded sensor s high clock spare)
+  unfolding commanded updated
+  command-outcome i =
+      choose P (eqb high 0xE000) _ _ (λ e. choose P (s .calibrating) _ _ (λ m. stored (same i)) (λ m. stored (restart true i)))
+      (λ e. choose P (eqb high 0xE001) _ _
+      (λ u. choose P (s .calibrating) _ _ (λ m. judged-outcome i (eqb-true high 0xE001 u) m (judgedOf sensor (methodSet s)) refl) (λ m. refused mode-off))
+      (λ e. choose P (eqb high 0xE002) _ _ (λ e. choose P (s .calibrating) _ _ (λ m. stored (restart false i)) (λ m. stored (same i)))
+      (λ e. refused not-listed)))
+
+  float-outcome : (w : FloatOf → Written) → w NotFinite ≡ Refused 0x84 → ((x : Float) → floatOf high low ≡ Finite x → P (w (Finite x))) → P (w (floatOf high low))
+  float-outcome w n f = go (floatOf high low) refl
+    where
+      go : (r : FloatOf) → floatOf high low ≡ r → P (w r)
+      go (Finite x) e = f x e
+      go NotFinite e = rw n (refused not-listed)
+
+  parameter-outcome : (k part : ℕ) → (30 ≤ o) × (o ≤ 53) → k ≡ (o - 30) / 8 + 1 → part ≡ (o - 30) % 8 → P (parameterWritten sensor s k part high low)
+  unfolding parameterWritten levelWritten unitsWritten sentinelWritten
+  parameter-outcome k part r i j =
+      choose P (eqb part 2) _ _
+      (λ e. choose P (levelAllowed high) _ _ (λ l. stored (level r (at 2 e) l)) (λ l. refused not-listed))
+      (λ e. choose P (eqb part 3) _ _
+      (λ e. choose P (unitsAllowed (idOf sensor k) high) _ _ (λ l. stored (units k r i (at 3 e) l)) (λ l. refused not-listed))
+      (λ e. choose P (eqb part 5) _ _
+      (λ e. float-outcome (sentinelStored s k) refl (λ x f. stored (sentinel k x r i (at 5 e) f)))
+      (λ e. refused read-only)))
+    where
+      at : (n : ℕ) → eqb part n ≡ true → (o - 30) % 8 ≡ n
+      at n e = let p : part ≡ n = eqb-true part n e in omega arith
+
+  field-outcome : P (fieldWritten sensor s o high low clock spare)
+  unfolding fieldWritten nextWritten methodWritten coefficientWritten pointWritten
+  field-outcome =
+      choose P (eqb o 3) _ _ (λ e. stored (next (eqb-true o 3 e)))
+      (λ e. choose P (eqb o 5) _ _ (λ e. command-outcome (eqb-true o 5 e))
+      (λ e. choose P (eqb o 6) _ _
+      (λ e. choose P (methodAllowed sensor high) _ _ (λ m. stored (method (eqb-true o 6 e) m)) (λ m. refused not-listed))
+      (λ e. choose P (leb 10 o && leb o 15) _ _ (λ e. float-outcome (coefficientStored s o) refl (λ x f. stored (coefficient x (between 10 15 e) f)))
+      (λ e. choose P (leb 16 o && leb o 23) _ _ (λ e. float-outcome (pointStored s o) refl (λ x f. stored (point x (between 16 23 e) f)))
+      (λ e. choose P (leb 30 o && leb o 53) _ _ (λ e. parameter-outcome ((o - 30) / 8 + 1) ((o - 30) % 8) (between 30 53 e) refl refl)
+      (λ e. refused read-only))))))
+    where
+      between : (a b : ℕ) → (leb a o && leb o b) ≡ true → (a ≤ o) × (o ≤ b)
+      between a b e = let t = both (leb a o) (leb o b) e in (leb-true a o (t .0), leb-true o b (t .1))
+
+-- the outcome of a write
+pub write-outcome : (sensor : ℕ) (s : Setup) (f : Field) (high low clock : ℕ) (spare : Bool)
+    → Outcome sensor s (f .offset) high low clock spare (writeOf sensor s f high low clock spare)
+unfolding writeOf
+write-outcome sensor s f high low clock spare =
+    choose P (eqb (f .access) 0) _ _ (λ e. refused read-only)
+    (λ e. choose P (eqb (f .access) 2 && not (s .calibrating)) _ _ (λ e. refused mode-off) (λ e. field-outcome sensor s (f .offset) high low clock spare))
+  where
+    P : Written → Type 0
+    P = Outcome sensor s (f .offset) high low clock spare
+
+-- what was stored
+pub stored-change : {sensor : ℕ} {s : Setup} {o high low clock : ℕ} {spare : Bool} {w : Written} → Outcome sensor s o high low clock spare w → (t : Setup) → w ≡ Stored t
+    → Change sensor s o high low t
+stored-change (refused h) t e = let z : _≡_ {A = ℕ} 0 1 = cc in absurd (omega arith)
+stored-change {sensor} {s} {o} {high} {low} (stored {t = u} h) t e = subst (Change sensor s o high low) (same-setup u t e) h
+  where
+    same-setup : (u t : Setup) → Stored u ≡ Stored t → u ≡ t
+    same-setup u t e = cc
+stored-change (update c i u m r j) t e = let z : _≡_ {A = ℕ} 0 1 = cc in absurd (omega arith)
