@@ -6,19 +6,19 @@ use Rattle.parameters.proofs.count.Tie as tie
 
 returns : tie.Need-returns
 unfolding countOf
-returns c = cc
+returns c = simp (c .match .keys1)
 
 returns-2 : tie.Need-returns-2
 unfolding countOf
-returns-2 c = cc
+returns-2 c = simp (c .match .keys2)
 
 returns-3 : tie.Need-returns-3
 unfolding countOf
-returns-3 c = cc
+returns-3 c = simp (c .match .keys3)
 
 returns-4 : tie.Need-returns-4
 unfolding countOf
-returns-4 c = cc
+returns-4 c = simp (c .match .keys4)
 
 returns-5 : tie.Need-returns-5
 unfolding countOf

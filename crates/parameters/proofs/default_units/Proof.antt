@@ -6,31 +6,31 @@ use Rattle.parameters.proofs.default_units.Tie as tie
 
 returns : tie.Need-returns
 unfolding defaultUnits
-returns c = cc
+returns c = simp (c .match .keys1)
 
 returns-2 : tie.Need-returns-2
 unfolding defaultUnits
-returns-2 c = cc
+returns-2 c = simp (c .match .keys2)
 
 returns-3 : tie.Need-returns-3
 unfolding defaultUnits
-returns-3 c = cc
+returns-3 c = simp (c .match .keys3)
 
 returns-4 : tie.Need-returns-4
 unfolding defaultUnits
-returns-4 c = cc
+returns-4 c = simp (c .match .keys4)
 
 returns-5 : tie.Need-returns-5
 unfolding defaultUnits
-returns-5 c = cc
+returns-5 c = simp (c .match .keys5)
 
 returns-6 : tie.Need-returns-6
 unfolding defaultUnits
-returns-6 c = cc
+returns-6 c = simp (c .match .keys6)
 
 returns-7 : tie.Need-returns-7
 unfolding defaultUnits
-returns-7 c = cc
+returns-7 c = simp (c .match .keys7)
 
 returns-8 : tie.Need-returns-8
 unfolding defaultUnits

@@ -6,15 +6,15 @@ use Rattle.parameters.proofs.parameter_id.Tie as tie
 
 returns : tie.Need-returns
 unfolding idOf
-returns c = cc
+returns c = simp (c .before .match .keys1, c .match2 .keys1)
 
 returns-2 : tie.Need-returns-2
 unfolding idOf
-returns-2 c = cc
+returns-2 c = simp (c .before .match .keys1, c .match2 .keys2)
 
 returns-3 : tie.Need-returns-3
 unfolding idOf
-returns-3 c = cc
+returns-3 c = simp (c .before .match .keys1, c .match2 .keys3)
 
 returns-4 : tie.Need-returns-4
 unfolding idOf
@@ -22,7 +22,7 @@ returns-4 c = simp (c .before .match .keys1, ne-eqb _ _ (c .match2 .rest .0 .0 .
 
 returns-5 : tie.Need-returns-5
 unfolding idOf
-returns-5 c = cc
+returns-5 c = simp (c .before .match .keys2, c .match3 .keys1)
 
 returns-6 : tie.Need-returns-6
 unfolding idOf
@@ -30,11 +30,11 @@ returns-6 c = simp (c .before .match .keys2, ne-eqb _ _ (c .match3 .rest .1))
 
 returns-7 : tie.Need-returns-7
 unfolding idOf
-returns-7 c = cc
+returns-7 c = simp (c .before .match .keys3, c .match4 .keys1)
 
 returns-8 : tie.Need-returns-8
 unfolding idOf
-returns-8 c = cc
+returns-8 c = simp (c .before .match .keys3, c .match4 .keys2)
 
 returns-9 : tie.Need-returns-9
 unfolding idOf
@@ -42,7 +42,7 @@ returns-9 c = simp (c .before .match .keys3, ne-eqb _ _ (c .match4 .rest .0 .1),
 
 returns-10 : tie.Need-returns-10
 unfolding idOf
-returns-10 c = cc
+returns-10 c = simp (c .before .match .keys4, c .match5 .keys1)
 
 returns-11 : tie.Need-returns-11
 unfolding idOf

@@ -10,15 +10,15 @@ returns c = simp (c .match .keys1)
 
 returns-2 : tie.Need-returns-2
 unfolding unitsAllowed
-returns-2 c = cc
+returns-2 c = simp (c .match .keys2)
 
 returns-3 : tie.Need-returns-3
 unfolding unitsAllowed
-returns-3 c = cc
+returns-3 c = simp (c .match .keys3)
 
 returns-4 : tie.Need-returns-4
 unfolding unitsAllowed
-returns-4 c = cc
+returns-4 c = simp (c .match .keys4)
 
 returns-5 : tie.Need-returns-5
 unfolding unitsAllowed
@@ -26,11 +26,11 @@ returns-5 c = simp (c .match .keys5)
 
 returns-6 : tie.Need-returns-6
 unfolding unitsAllowed
-returns-6 c = cc
+returns-6 c = simp (c .match .keys6)
 
 returns-7 : tie.Need-returns-7
 unfolding unitsAllowed
-returns-7 c = cc
+returns-7 c = simp (c .match .keys7)
 
 returns-8 : tie.Need-returns-8
 unfolding unitsAllowed

@@ -5,7 +5,7 @@ use Rattle.readings.proofs.worked_from.Tie as tie
 
 returns : tie.Need-returns
 unfolding workedFrom
-returns c = cc
+returns c = simp (c .if1 .taken)
 
 returns-2 : tie.Need-returns-2
 unfolding workedFrom

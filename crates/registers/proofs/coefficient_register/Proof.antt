@@ -7,27 +7,27 @@ use Rattle.registers.proofs.coefficient_register.Tie as tie
 
 returns : tie.Need-returns
 unfolding coefficientRegister
-returns c = cc
+returns c = simp (c .before .match .keys1, ← c .high-word .ensures)
 
 returns-2 : tie.Need-returns-2
 unfolding coefficientRegister
-returns-2 c = cc
+returns-2 c = simp (c .before .match .keys2, ← c .low-word .ensures)
 
 returns-3 : tie.Need-returns-3
 unfolding coefficientRegister
-returns-3 c = cc
+returns-3 c = simp (c .before .match .keys3, ← c .high-word2 .ensures)
 
 returns-4 : tie.Need-returns-4
 unfolding coefficientRegister
-returns-4 c = cc
+returns-4 c = simp (c .before .match .keys4, ← c .low-word2 .ensures)
 
 returns-5 : tie.Need-returns-5
 unfolding coefficientRegister
-returns-5 c = cc
+returns-5 c = simp (c .before .match .keys5, ← c .high-word3 .ensures)
 
 returns-6 : tie.Need-returns-6
 unfolding coefficientRegister
-returns-6 c = cc
+returns-6 c = simp (c .before .match .keys6, ← c .low-word3 .ensures)
 
 returns-7 : tie.Need-returns-7
 unfolding coefficientRegister

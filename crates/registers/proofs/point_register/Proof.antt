@@ -7,35 +7,35 @@ use Rattle.registers.proofs.point_register.Tie as tie
 
 returns : tie.Need-returns
 unfolding pointRegister
-returns c = cc
+returns c = simp (c .before .match .keys1, ← c .high-word .ensures)
 
 returns-2 : tie.Need-returns-2
 unfolding pointRegister
-returns-2 c = cc
+returns-2 c = simp (c .before .match .keys2, ← c .low-word .ensures)
 
 returns-3 : tie.Need-returns-3
 unfolding pointRegister
-returns-3 c = cc
+returns-3 c = simp (c .before .match .keys3, ← c .high-word2 .ensures)
 
 returns-4 : tie.Need-returns-4
 unfolding pointRegister
-returns-4 c = cc
+returns-4 c = simp (c .before .match .keys4, ← c .low-word2 .ensures)
 
 returns-5 : tie.Need-returns-5
 unfolding pointRegister
-returns-5 c = cc
+returns-5 c = simp (c .before .match .keys5, ← c .high-word3 .ensures)
 
 returns-6 : tie.Need-returns-6
 unfolding pointRegister
-returns-6 c = cc
+returns-6 c = simp (c .before .match .keys6, ← c .low-word3 .ensures)
 
 returns-7 : tie.Need-returns-7
 unfolding pointRegister
-returns-7 c = cc
+returns-7 c = simp (c .before .match .keys7, ← c .high-word4 .ensures)
 
 returns-8 : tie.Need-returns-8
 unfolding pointRegister
-returns-8 c = cc
+returns-8 c = simp (c .before .match .keys8, ← c .low-word4 .ensures)
 
 returns-9 : tie.Need-returns-9
 unfolding pointRegister
