@@ -1,5 +1,5 @@
 -- Which rows of the table can be written: their offsets, and whose they are. Assumes nothing.
-use mathlib.Core.Path.{_≡_, refl, sym, _∙_}
+use mathlib.Core.Path.{_≡_, refl, sym, subst, _∙_}
 use mathlib.Core.Bool.{Bool, true, false, _&&_, _||_, not, Bool·beq, false≢true}
 use mathlib.Core.List.{List, [], _∷_}
 use Prim.Native.Nat.{ℕ, _/_, _<_, _≤_}
@@ -18,9 +18,31 @@ abbrev among : ℕ → List ℕ → Bool
 among x [] = false
 among x (y ∷ ys) = eqb x y || among x ys
 
+-- a property of each number of a list
+abbrev pub Each : (ℕ → Type 0) → List ℕ → Type 0
+Each P [] = Unit {0}
+Each P (y ∷ ys) = P y × Each P ys
+
+-- what each number of a list has, a number among them has
+each-at : (P : ℕ → Type 0) (ys : List ℕ) → Each P ys → (x : ℕ) → among x ys ≡ true → P x
+each-at P [] h x e = absurd (false≢true e)
+each-at P (y ∷ ys) h x e = go (eqb x y) refl e (each-at P ys (h .1) x)
+  where
+    go : (b : Bool) → eqb x y ≡ b → b || among x ys ≡ true → (among x ys ≡ true → P x) → P x
+    go true q e ih = subst P (sym (eqb-true x y q)) (h .0)
+    go false q e ih = ih e
+
 -- the offsets that a sensor's writable fields can have
+abbrev pub offsets : List ℕ
+offsets = 3 ∷ 5 ∷ 6 ∷ 10 ∷ 12 ∷ 14 ∷ 16 ∷ 18 ∷ 20 ∷ 22 ∷ 33 ∷ 35 ∷ 40 ∷ 41 ∷ 43 ∷ 49 ∷ 51 ∷ []
+
 unfoldable pub writable : ℕ → Bool
-writable offset = among offset (3 ∷ 5 ∷ 6 ∷ 10 ∷ 12 ∷ 14 ∷ 16 ∷ 18 ∷ 20 ∷ 22 ∷ 33 ∷ 35 ∷ 40 ∷ 41 ∷ 43 ∷ 49 ∷ 51 ∷ [])
+writable offset = among offset offsets
+
+-- what each of them has, a writable offset has
+pub by-offset : (P : ℕ → Type 0) → Each P offsets → (o : ℕ) → writable o ≡ true → P o
+unfolding writable
+by-offset P h o e = each-at P offsets h o e
 
 -- those of the fields that are writable in mode only
 unfoldable pub modal : ℕ → Bool

@@ -26,7 +26,7 @@ use Rattle.writes.specs.declared.Written.the-variants.{Refused, Stored}
 use Rattle.writes.proofs.Outcomes.{Change, same, restart, next, method, coefficient, point, level, units, sentinel, write-outcome, stored-change}
 
 -- the writable fields of one word
-abbrev oneWord : ℕ → Bool
+abbrev pub oneWord : ℕ → Bool
 oneWord o = eqb o 5 || eqb o 6 || eqb o 33 || eqb o 40 || eqb o 41 || eqb o 49
 
 -- from s to t the field at o takes the value of its words, the others stay, and so does the mode
@@ -134,9 +134,9 @@ unfolding worded
 all-worded = refl
 
 -- a field of the map that can be written
-record Settable (f : Field) : Type 0 where
-  offset-writable : writable (f .offset) ≡ true
-  one-word : eqb (f .words) 1 ≡ oneWord (f .offset)
+pub record Settable (f : Field) : Type 0 where
+  pub offset-writable : writable (f .offset) ≡ true
+  pub one-word : eqb (f .words) 1 ≡ oneWord (f .offset)
 
 found-settable : (r : ℕ) (f : Field) → fieldAt r ≡ Row f → (f .access ≡ 0 → ⊥) → Settable f
 unfolding worded
@@ -151,7 +151,8 @@ found-settable = found-rule (λ f. (f .access ≡ 0 → ⊥) → Settable f) of
 -- a write that is stored, of a field of the map other than the command
 module _ (sensor : ℕ) (s : Setup) (r : ℕ) (f : Field) (found : fieldAt r ≡ Row f) (value : f .offset ≡ 5 → ⊥) (high low clock : ℕ) (spare : Bool) (t : Setup)
     (e : writeOf sensor s f high low clock spare ≡ Stored t) where
-  field : Settable f
+  -- the field can be written
+  pub field : Settable f
   unfolding writeOf
   field =
       found-settable r f found
