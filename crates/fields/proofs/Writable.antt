@@ -18,19 +18,13 @@ abbrev among : ℕ → List ℕ → Bool
 among x [] = false
 among x (y ∷ ys) = eqb x y || among x ys
 
--- a property of each number of a list
-abbrev pub Each : (ℕ → Type 0) → List ℕ → Type 0
-Each P [] = Unit {0}
-Each P (y ∷ ys) = P y × Each P ys
-
--- what each number of a list has, a number among them has
-each-at : (P : ℕ → Type 0) (ys : List ℕ) → Each P ys → (x : ℕ) → among x ys ≡ true → P x
-each-at P [] h x e = absurd (false≢true e)
-each-at P (y ∷ ys) h x e = go (eqb x y) refl e (each-at P ys (h .1) x)
+-- a number that is y, or passes another test, has what y has and what passes that test
+either : (P : ℕ → Type 0) (x y : ℕ) (test : Bool) → P y → (test ≡ true → P x) → eqb x y || test ≡ true → P x
+either P x y test p rest e = go (eqb x y) refl e
   where
-    go : (b : Bool) → eqb x y ≡ b → b || among x ys ≡ true → (among x ys ≡ true → P x) → P x
-    go true q e ih = subst P (sym (eqb-true x y q)) (h .0)
-    go false q e ih = ih e
+    go : (b : Bool) → eqb x y ≡ b → b || test ≡ true → P x
+    go true q e = subst P (sym (eqb-true x y q)) p
+    go false q e = rest e
 
 -- the offsets that a sensor's writable fields can have
 abbrev pub offsets : List ℕ
@@ -40,9 +34,28 @@ unfoldable pub writable : ℕ → Bool
 writable offset = among offset offsets
 
 -- what each of them has, a writable offset has
-pub by-offset : (P : ℕ → Type 0) → Each P offsets → (o : ℕ) → writable o ≡ true → P o
+pub by-offset : (P : ℕ → Type 0) → P 3 → P 5 → P 6 → P 10 → P 12 → P 14 → P 16 → P 18 → P 20 → P 22 → P 33 → P 35 → P 40 → P 41 → P 43 → P 49 → P 51
+    → (o : ℕ) → writable o ≡ true → P o
 unfolding writable
-by-offset P h o e = each-at P offsets h o e
+by-offset P p3 p5 p6 p10 p12 p14 p16 p18 p20 p22 p33 p35 p40 p41 p43 p49 p51 o =
+    either P o 3 _ p3
+    (either P o 5 _ p5
+    (either P o 6 _ p6
+    (either P o 10 _ p10
+    (either P o 12 _ p12
+    (either P o 14 _ p14
+    (either P o 16 _ p16
+    (either P o 18 _ p18
+    (either P o 20 _ p20
+    (either P o 22 _ p22
+    (either P o 33 _ p33
+    (either P o 35 _ p35
+    (either P o 40 _ p40
+    (either P o 41 _ p41
+    (either P o 43 _ p43
+    (either P o 49 _ p49
+    (either P o 51 _ p51
+    (λ e. absurd (false≢true e))))))))))))))))))
 
 -- those of the fields that are writable in mode only
 unfoldable pub modal : ℕ → Bool

@@ -41,58 +41,24 @@ module _ (sensor : ℕ) (x : Sensor) where
   each-shown : (o : ℕ) → writable o ≡ true → Shown o
   unfolding sensorRegister headRegister modeOf coefficientRegister shownCoefficients pointRegister parameterRegister shownId parameterOf contentOf highWord lowWord
   each-shown =
-      by-offset Shown (
-        (λ m l. record { first = refl; second = λ e. refl }),
-        (
-          (λ m l. record { first = refl; second = λ e. absurd (no (sym e)) }),
-          (
-            (λ m l. record { first = refl; second = λ e. absurd (no (sym e)) }),
-            (
-              (λ m l. record { first = rw (m refl); second = λ e. rw (m refl) }),
-              (
-                (λ m l. record { first = rw (m refl); second = λ e. rw (m refl) }),
-                (
-                  (λ m l. record { first = rw (m refl); second = λ e. rw (m refl) }),
-                  (
-                    (λ m l. record { first = refl; second = λ e. refl }),
-                    (
-                      (λ m l. record { first = refl; second = λ e. refl }),
-                      (
-                        (λ m l. record { first = refl; second = λ e. refl }),
-                        (
-                          (λ m l. record { first = refl; second = λ e. refl }),
-                          (
-                            (λ m l. record { first = refl; second = λ e. absurd (no (sym e)) }),
-                            (
-                              (λ m l. record { first = refl; second = λ e. refl }),
-                              (
-                                (λ m l. record { first = rw (l refl); second = λ e. absurd (no (sym e)) }),
-                                (
-                                  (λ m l. record { first = refl; second = λ e. absurd (no (sym e)) }),
-                                  (
-                                    (λ m l. record { first = refl; second = λ e. refl }),
-                                    (
-                                      (λ m l. record { first = refl; second = λ e. absurd (no (sym e)) }),
-                                      (
-                                        (λ m l. record { first = refl; second = λ e. refl }),
-                                        tt,
-                                      ),
-                                    ),
-                                  ),
-                                ),
-                              ),
-                            ),
-                          ),
-                        ),
-                      ),
-                    ),
-                  ),
-                ),
-              ),
-            ),
-          ),
-        ),
-      )
+      by-offset Shown
+      (λ m l. record { first = refl; second = λ e. refl })
+      (λ m l. record { first = refl; second = λ e. absurd (no (sym e)) })
+      (λ m l. record { first = refl; second = λ e. absurd (no (sym e)) })
+      (λ m l. record { first = rw (m refl); second = λ e. rw (m refl) })
+      (λ m l. record { first = rw (m refl); second = λ e. rw (m refl) })
+      (λ m l. record { first = rw (m refl); second = λ e. rw (m refl) })
+      (λ m l. record { first = refl; second = λ e. refl })
+      (λ m l. record { first = refl; second = λ e. refl })
+      (λ m l. record { first = refl; second = λ e. refl })
+      (λ m l. record { first = refl; second = λ e. refl })
+      (λ m l. record { first = refl; second = λ e. absurd (no (sym e)) })
+      (λ m l. record { first = refl; second = λ e. refl })
+      (λ m l. record { first = rw (l refl); second = λ e. absurd (no (sym e)) })
+      (λ m l. record { first = refl; second = λ e. absurd (no (sym e)) })
+      (λ m l. record { first = refl; second = λ e. refl })
+      (λ m l. record { first = refl; second = λ e. absurd (no (sym e)) })
+      (λ m l. record { first = refl; second = λ e. refl })
 
 -- ---- rows of the table
 
