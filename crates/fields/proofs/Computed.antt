@@ -1,6 +1,6 @@
 -- What a computed test over a list of rows, over two rows of it or over the numbers below a bound says of each. Assumes nothing.
 use mathlib.Core.Path.{_≡_, refl, ap}
-use mathlib.Core.Bool.{Bool, true, false, _&&_, _||_, not, Bool·beq, false≢true}
+use mathlib.Core.Bool.{Bool, true, false, _&&_, _||_, not}
 use mathlib.Core.List.{List, [], _∷_}
 use Prim.Native.Nat.{ℕ, zero, suc, _<_}
 use native.Mathlib.Nat.{le-of-suc-le-suc, not-suc-le-zero}
@@ -8,13 +8,9 @@ use native.Mathlib.Omega.{arith}
 use lib.Dec.{eqb}
 use lib.ListN.{length, getD}
 use borrow.Author.Tests.{eqb-true, eqb-false}
+use Rattle.floats.proofs.Bools.{both}
 use Rattle.fields.specs.declared.Field.{Field}
 use Rattle.fields.proofs.Search.{noField}
-
--- both parts of a test that holds
-pub both : (a b : Bool) → (a && b) ≡ true → (a ≡ true) × (b ≡ true)
-both true b e = (refl, e)
-both false b e = absurd (false≢true e)
 
 -- the second part of a test whose first part fails
 pub other : (a b : Bool) → a ≡ false → (a || b) ≡ true → b ≡ true
@@ -23,13 +19,6 @@ other a b e h = rw e at h
 -- what a test gives where its condition holds
 pub given : (a b : Bool) → (not a || b) ≡ true → a ≡ true → b ≡ true
 given a b h e = other (not a) b (ap not e) h
-
--- two tests that agree are equal
-pub beq-true : (a b : Bool) → Bool·beq a b ≡ true → a ≡ b
-beq-true true true e = refl
-beq-true true false e = absurd (false≢true e)
-beq-true false true e = absurd (false≢true e)
-beq-true false false e = refl
 
 -- every row passes
 abbrev pub every : (Field → Bool) → List Field → Bool

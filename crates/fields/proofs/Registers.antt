@@ -9,13 +9,14 @@ use native.Mathlib.Omega.{arith}
 use lib.Dec.{eqb, ltb}
 use lib.ListN.{length, getD}
 use borrow.Author.Tests.{eqb-true, eq-eqb, ltb-true, ltb-false, le-ltb}
+use Rattle.floats.proofs.Bools.{both, beq-true}
 use Rattle.fields.specs.declared.Field.{Field}
 use Rattle.fields.specs.declared.Found.{Found}
 use Rattle.fields.specs.declared.Found.the-variants.{Row, Absent}
 use Rattle.fields.specs.Fields.{fields, owns, holds, findIn, fieldAt, found, allFound, wholeIn, whole}
 use Rattle.fields.specs.Map.{inMap}
 use Rattle.fields.proofs.Search.{noField, past}
-use Rattle.fields.proofs.Computed.{both, beq-true, below, at-number}
+use Rattle.fields.proofs.Computed.{below, at-number}
 use Rattle.fields.proofs.Table.{rowAt, Shape, row-shape, Covered, held-parts, held-of, rows-apart}
 
 -- ---- the row that is found

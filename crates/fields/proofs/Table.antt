@@ -6,10 +6,11 @@ use native.Mathlib.Omega.{arith}
 use lib.Dec.{leb, ltb}
 use lib.ListN.{getD}
 use borrow.Author.Tests.{leb-true, ltb-true, ltb-false, lt-ltb, le-ltb, lt-leb}
+use Rattle.floats.proofs.Bools.{both}
 use Rattle.fields.specs.declared.Field.{Field}
 use Rattle.fields.specs.Fields.{fields, owns, holds}
 use Rattle.fields.proofs.Search.{noField, unowned}
-use Rattle.fields.proofs.Computed.{both, other, every, everyTwo, below, at-row, at-two, at-number}
+use Rattle.fields.proofs.Computed.{other, every, everyTwo, below, at-row, at-two, at-number}
 
 -- a row by its index
 abbrev pub rowAt : ℕ → Field

@@ -6,11 +6,12 @@ use Prim.Native.Nat.{ℕ, _/_, _<_, _≤_}
 use native.Mathlib.Omega.{arith}
 use lib.Dec.{eqb, ltb}
 use borrow.Author.Tests.{eqb-true, eq-eqb, ne-eqb, ltb-true, ltb-false, not-true}
+use Rattle.floats.proofs.Bools.{both, beq-true}
 use Rattle.fields.specs.declared.Field.{Field}
 use Rattle.fields.specs.declared.Found.the-variants.{Row}
 use Rattle.fields.specs.Fields.{fields, owns, fieldAt}
 use Rattle.fields.proofs.Search.{unowned}
-use Rattle.fields.proofs.Computed.{both, other, given, beq-true, every, below, at-row, at-number}
+use Rattle.fields.proofs.Computed.{other, given, every, below, at-row, at-number}
 use Rattle.fields.proofs.Table.{rowAt}
 use Rattle.fields.proofs.Registers.{found-row, found-rule, found-covered}
 

@@ -7,52 +7,53 @@ use Rattle.fields.specs.declared.Field.{Field}
 use Rattle.fields.specs.declared.Found.{Found}
 use Rattle.fields.specs.declared.Found.the-variants.{Row, Absent}
 
--- offset, words, access ("W is writable, M writable in mode only, the rest read-only": 1, 2, 0) and owners (bit 0 the device, bit s sensor s)
+-- offset, words, access ("W is writable, M writable in mode only, the rest read-only": 1, 2, 0) and owners (bit 0 the device, bit s sensor s):
+-- 1 is the device, 30 all sensors, 22 sensors 1, 2 and 4, 10 sensors 1 and 3, 8 sensor 3, 2 sensor 1
 abbrev pub field : ℕ → ℕ → ℕ → ℕ → Field
 field offset words access owners = record { offset = offset; words = words; access = access; owners = owners }
 
 abbrev pub fields : List Field
 fields =
-    field 0 1 0 1 ∷
-    field 1 1 0 1 ∷
-    field 2 2 0 1 ∷
-    field 4 1 0 1 ∷
-    field 5 1 0 1 ∷
-    field 6 1 0 1 ∷
-    field 7 1 0 1 ∷
-    field 8 1 0 1 ∷
-    field 0 1 0 30 ∷
-    field 1 2 0 30 ∷
-    field 3 2 1 30 ∷
-    field 5 1 1 30 ∷
-    field 6 1 2 22 ∷
-    field 7 1 0 30 ∷
-    field 10 2 2 30 ∷
-    field 12 2 2 30 ∷
-    field 14 2 2 8 ∷
-    field 16 2 2 22 ∷
-    field 18 2 2 22 ∷
-    field 20 2 2 22 ∷
-    field 22 2 2 22 ∷
-    field 30 2 0 30 ∷
-    field 32 1 0 30 ∷
-    field 33 1 1 30 ∷
-    field 34 1 0 30 ∷
-    field 35 2 1 30 ∷
-    field 37 1 0 30 ∷
-    field 38 2 0 10 ∷
-    field 40 1 0 2 ∷
-    field 40 1 1 8 ∷
-    field 41 1 1 10 ∷
-    field 42 1 0 10 ∷
-    field 43 2 1 10 ∷
-    field 45 1 0 10 ∷
-    field 46 2 0 2 ∷
-    field 48 1 0 2 ∷
-    field 49 1 1 2 ∷
-    field 50 1 0 2 ∷
-    field 51 2 1 2 ∷
-    field 53 1 0 2 ∷
+    field 0 1 0 1 ∷  -- the map's version
+    field 1 1 0 1 ∷  -- the device's id
+    field 2 2 0 1 ∷  -- the clock
+    field 4 1 0 1 ∷  -- good messages
+    field 5 1 0 1 ∷  -- bad messages
+    field 6 1 0 1 ∷  -- exceptions
+    field 7 1 0 1 ∷  -- the journal's capacity
+    field 8 1 0 1 ∷  -- entries in use
+    field 0 1 0 30 ∷  -- the sensor's number
+    field 1 2 0 30 ∷  -- last calibration
+    field 3 2 1 30 ∷  -- next calibration
+    field 5 1 1 30 ∷  -- command
+    field 6 1 2 22 ∷  -- method
+    field 7 1 0 30 ∷  -- number of parameters
+    field 10 2 2 30 ∷  -- coefficient 1
+    field 12 2 2 30 ∷  -- coefficient 2
+    field 14 2 2 8 ∷  -- coefficient 3
+    field 16 2 2 22 ∷  -- x1
+    field 18 2 2 22 ∷  -- y1
+    field 20 2 2 22 ∷  -- x2
+    field 22 2 2 22 ∷  -- y2
+    field 30 2 0 30 ∷  -- parameter 1: value
+    field 32 1 0 30 ∷  -- parameter 1: id
+    field 33 1 1 30 ∷  -- parameter 1: units
+    field 34 1 0 30 ∷  -- parameter 1: quality
+    field 35 2 1 30 ∷  -- parameter 1: sentinel
+    field 37 1 0 30 ∷  -- parameter 1: available units
+    field 38 2 0 10 ∷  -- parameter 2: value
+    field 40 1 0 2 ∷  -- parameter 2: id, of sensor 1
+    field 40 1 1 8 ∷  -- parameter 2: id, of the level
+    field 41 1 1 10 ∷  -- parameter 2: units
+    field 42 1 0 10 ∷  -- parameter 2: quality
+    field 43 2 1 10 ∷  -- parameter 2: sentinel
+    field 45 1 0 10 ∷  -- parameter 2: available units
+    field 46 2 0 2 ∷  -- parameter 3: value
+    field 48 1 0 2 ∷  -- parameter 3: id
+    field 49 1 1 2 ∷  -- parameter 3: units
+    field 50 1 0 2 ∷  -- parameter 3: quality
+    field 51 2 1 2 ∷  -- parameter 3: sentinel
+    field 53 1 0 2 ∷  -- parameter 3: available units
     []
 
 -- owner 0 is the device, owners 1..4 are the sensors

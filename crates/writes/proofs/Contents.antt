@@ -8,12 +8,12 @@ use lib.Ieee.{Float, binary32, toBits}
 use borrow.Author.Tests.{ne-eqb}
 use Rattle.floats.specs.Floats.{pattern, floatOf, highWord, lowWord}
 use Rattle.floats.specs.declared.FloatOf.the-variants.{Finite}
-use Rattle.floats.proofs.Bools.{no}
+use Rattle.floats.proofs.Bools.{no, beq-true}
 use Rattle.floats.proofs.Words.{float-and-back}
 use Rattle.fields.specs.declared.Field.{Field}
 use Rattle.fields.specs.declared.Found.the-variants.{Row}
 use Rattle.fields.specs.Fields.{fields, fieldAt}
-use Rattle.fields.proofs.Computed.{other, beq-true, every, at-row}
+use Rattle.fields.proofs.Computed.{other, every, at-row}
 use Rattle.fields.proofs.Table.{rowAt}
 use Rattle.fields.proofs.Registers.{found-rule}
 use Rattle.fields.proofs.Writable.{writable, writable-rows}
