@@ -8,7 +8,7 @@ use Rattle.floats.specs.Floats.{pattern, floatOf}
 use Rattle.floats.specs.declared.FloatOf.{FloatOf}
 use Rattle.floats.specs.declared.FloatOf.the-variants.{Finite, NotFinite}
 use Rattle.calibration.specs.Coefficients.{coefficients}
-use Rattle.calibration.specs.Methods.{points, methodOf, judgedOf}
+use Rattle.calibration.specs.Methods.{points, methodOf, judgedOf, codeOf as verdictCode}
 use Rattle.calibration.specs.declared.coefficients.Coefficients.{Coefficients}
 use Rattle.calibration.specs.declared.methods.Points.{Points}
 use Rattle.calibration.specs.declared.methods.Method.{Method}
@@ -35,12 +35,12 @@ codeOf (Updated s e) = 0
 abbrev pub methodSet : Setup → Method
 methodSet s = methodOf (s .method) (s .trial) (s .points)
 
--- "A full journal is 0xC0. Else .. one entry is appended"; a candidate that isn't accepted is 0x97
+-- "A full journal is 0xC0. Else .. one entry is appended"; a candidate that isn't accepted is refused by its verdict's code, 0x97
 abbrev pub judgedUpdate : ℕ → Setup → ℕ → Bool → Verdict → Written
 judgedUpdate sensor s clock spare (Accepted c) = cond spare (Updated (calibratedAt s c clock) (entryOf sensor (methodSet s) c clock)) (Refused 0xC0)
-judgedUpdate sensor s clock spare (OutsideLimits c) = Refused 0x97
-judgedUpdate sensor s clock spare CandidateNotFinite = Refused 0x97
-judgedUpdate sensor s clock spare Undefined = Refused 0x97
+judgedUpdate sensor s clock spare (OutsideLimits c) = Refused (verdictCode (OutsideLimits c))
+judgedUpdate sensor s clock spare CandidateNotFinite = Refused (verdictCode CandidateNotFinite)
+judgedUpdate sensor s clock spare Undefined = Refused (verdictCode Undefined)
 
 -- "0xE001 (update): mode off is 0x92"
 unfoldable pub updated : ℕ → Setup → ℕ → Bool → Written
