@@ -1,0 +1,244 @@
+// The frame call: judged, answered and carried out. The plan says what a body asks; each kind of answer is a function of its own.
+ghost use mathlib.Core.Path.{_≡_};
+ghost use mathlib.Core.Bool.{true};
+ghost use mathlib.Core.List.{[]};
+ghost use Prim.Native.Nat.{_+_, _≤_};
+ghost use lib.ListN.{length};
+ghost use Rattle.journal.specs.Journal.{IsSensor};
+ghost use Rattle.journal.specs.Valid.{valid};
+ghost use Rattle.rtu.specs.Frame.{overlay};
+ghost use Rattle.plans.specs.Plans.{planOf};
+ghost use Rattle.calls.specs.Frame.{outcome, answer as answered, handed, refusal, writtenReply, confirmation, deviceOf, registerOf, registersFrom, reading, spareIn, writeAt, carried, maskedWord, planned, frameOf};
+use calls::SondeFrame;
+use fields::Field;
+use plans::Plan;
+use registers::Device;
+use rtu::bytes;
+use state::Sonde;
+use writes::Written;
+
+// A frame that gets no reply.
+fn silent(sonde: Sonde) -> SondeFrame
+    ensures { λ r. ⌜ r ≡ handed (answered sonde []) ⌝ }
+{
+    SondeFrame {
+        number: 0,
+        length: 0,
+        sonde,
+    }
+}
+
+// The answer to a request that is refused by a code.
+fn refuse(sonde: Sonde, body: &[u8], reply: &mut [u8], code: u8) -> SondeFrame
+    requires { ⌜ 256 ≤ length (now reply) ⌝ }
+    ensures { λ r. ⌜ r ≡ handed (refusal sonde (now (body .entry)) code) ⌝ }
+    ensures { λ _. ⌜ now (reply .exit) ≡ overlay (refusal sonde (now (body .entry)) code .bytes) (now (reply .entry)) ⌝ }
+{
+    let counted = sonde.count_exception();
+    let address = modbus::address(body);
+    if address == 0 {
+        return silent(counted);
+    }
+    let function = modbus::function(body);
+    let length = replies::put_exception(reply, address, function, code);
+    SondeFrame {
+        number: 0,
+        length,
+        sonde: counted,
+    }
+}
+
+// The reply to a write that was carried out: start and count to function 16, else the request.
+fn put_written(reply: &mut [u8], body: &[u8]) -> u16
+    requires { ⌜ (256 ≤ length (now reply)) × (6 ≤ length (now body)) × (length (now body) ≤ 254) ⌝ }
+    ensures { λ r. ⌜ r ≡ length (writtenReply (now (body .entry))) ⌝ }
+    ensures { λ _. ⌜ now (reply .exit) ≡ overlay (writtenReply (now (body .entry))) (now (reply .entry)) ⌝ }
+{
+    if modbus::function(body) == 16 {
+        let start = bytes::word_at(body, 2);
+        let count = bytes::word_at(body, 4);
+        return replies::put_write(reply, modbus::address(body), start, count);
+    }
+    replies::put_echo(reply, body)
+}
+
+// The answer to a write that was carried out.
+fn confirm(sonde: Sonde, body: &[u8], reply: &mut [u8]) -> SondeFrame
+    requires { ⌜ (256 ≤ length (now reply)) × (6 ≤ length (now body)) × (length (now body) ≤ 254) ⌝ }
+    ensures { λ r. ⌜ r ≡ handed (confirmation sonde (now (body .entry))) ⌝ }
+    ensures { λ _. ⌜ now (reply .exit) ≡ overlay (confirmation sonde (now (body .entry)) .bytes) (now (reply .entry)) ⌝ }
+{
+    let counted = sonde.count_good();
+    if modbus::address(body) == 0 {
+        return silent(counted);
+    }
+    let length = put_written(reply, body);
+    SondeFrame {
+        number: 0,
+        length,
+        sonde: counted,
+    }
+}
+
+// The values that the device's registers show.
+fn device(sonde: Sonde, volume: &[u16], clock: u32) -> Device
+    ensures { λ r. ⌜ r ≡ deviceOf sonde (now (volume .entry)) clock ⌝ }
+{
+    let counters = sonde.counters;
+    Device {
+        clock,
+        good: counters.good,
+        bad: counters.bad,
+        exceptions: counters.exceptions,
+        capacity: volume::capacity(volume.len()),
+        used: audit::used(volume),
+    }
+}
+
+// What a register shows; 0 where the map has none.
+fn register(sonde: Sonde, device: Device, r: u16) -> u16
+    ensures { λ x. ⌜ x ≡ registerOf sonde device r ⌝ }
+{
+    let owner = r / 100;
+    if owner == 0 {
+        return registers::device_register(device, r % 100);
+    }
+    if owner <= 4 {
+        return registers::sensor_register(owner, sonde.sensors[(owner as usize) - 1], r % 100);
+    }
+    0
+}
+
+// Registers from `start` on, as many as there are words.
+fn fill(words: &mut [u16], sonde: Sonde, device: Device, start: u16)
+    requires { ⌜ start + length (now words) ≤ 65536 ⌝ }
+    ensures { λ _. ⌜ now (words .exit) ≡ registersFrom sonde device start (length (now (words .entry))) ⌝ }
+{
+    for i in 0..words.len() {
+        words[i] = register(sonde, device, start + (i as u16));
+    }
+}
+
+fn read(
+    sonde: Sonde,
+    reply: &mut [u8],
+    volume: &[u16],
+    clock: u32,
+    start: u16,
+    count: u16,
+) -> SondeFrame
+    requires { ⌜ (256 ≤ length (now reply)) × (count ≤ 125) × (start + count ≤ 500) ⌝ }
+    ensures { λ r. ⌜ r ≡ handed (reading sonde (now (volume .entry)) clock start count) ⌝ }
+    ensures { λ _. ⌜ now (reply .exit) ≡ overlay (reading sonde (now (volume .entry)) clock start count .bytes) (now (reply .entry)) ⌝ }
+{
+    let mut words: [u16; 125] = [0; 125];
+    let n = count as usize;
+    fill(&mut words[..n], sonde, device(sonde, volume, clock), start);
+    let length = replies::put_read(reply, sonde.address, &words[..n]);
+    SondeFrame {
+        number: 0,
+        length,
+        sonde: sonde.count_good(),
+    }
+}
+
+// Whether the journal has room for an entry.
+fn spare(volume: &[u16]) -> bool
+    ensures { λ r. ⌜ r ≡ spareIn (now (volume .entry)) ⌝ }
+{
+    audit::used(volume) < volume::capacity(volume.len())
+}
+
+// A write of one whole field: refused, stored, or an update that is journalled.
+fn write(
+    sonde: Sonde,
+    body: &[u8],
+    reply: &mut [u8],
+    volume: &mut [u16],
+    clock: u32,
+    sensor: u16,
+    field: Field,
+    high: u16,
+    low: u16,
+) -> SondeFrame
+    requires { ⌜ (256 ≤ length (now reply)) × (6 ≤ length (now body)) × (length (now body) ≤ 254) × IsSensor sensor × (valid (now volume) ≡ true) ⌝ }
+    ensures { λ r. ⌜ outcome r (now (reply .exit)) (now (volume .exit)) ≡ carried sonde (now (body .entry)) (now (reply .entry)) (now (volume .entry)) sensor (writeAt sonde (now (volume .entry)) clock sensor field high low) ⌝ }
+{
+    let setup = sonde.setup(sensor);
+    match writes::write(sensor, setup, field, high, low, clock, spare(volume)) {
+        Written::Refused(code) => refuse(sonde, body, reply, code),
+        Written::Stored(s) => confirm(sonde.with_setup(sensor, s), body, reply),
+        Written::Updated(s, e) => {
+            recording::append(volume, e);
+            confirm(sonde.with_setup(sensor, s), body, reply)
+        }
+    }
+}
+
+// What function 22 writes over what a read shows.
+fn masked(sonde: Sonde, sensor: u16, field: Field, and_mask: u16, or_mask: u16) -> u16
+    requires { ⌜ IsSensor sensor ⌝ }
+    ensures { λ r. ⌜ r ≡ maskedWord sonde sensor field «and_mask» «or_mask» ⌝ }
+{
+    let x = sonde.sensors[(sensor as usize) - 1];
+    let old = registers::sensor_register(sensor, x, field.offset);
+    modbus::masked(old, and_mask, or_mask)
+}
+
+// A body whose frame was good, for a sonde that agrees with its volume.
+fn answer(sonde: Sonde, body: &[u8], reply: &mut [u8], volume: &mut [u16], clock: u32) -> SondeFrame
+    requires { ⌜ (256 ≤ length (now reply)) × (length (now body) ≤ 254) × (valid (now volume) ≡ true) ⌝ }
+    ensures { λ r. ⌜ outcome r (now (reply .exit)) (now (volume .exit)) ≡ planned sonde (now (body .entry)) (now (reply .entry)) (now (volume .entry)) clock (planOf (sonde .address) (now (body .entry))) ⌝ }
+{
+    match plans::judge(sonde.address, body) {
+        Plan::Foreign => silent(sonde),
+        Plan::BroadcastRead => silent(sonde.count_good()),
+        Plan::Refused(code) => refuse(sonde, body, reply, code),
+        Plan::Reading { start, count } => read(sonde, reply, volume, clock, start, count),
+        Plan::Writing {
+            sensor,
+            field,
+            high,
+            low,
+        } => write(sonde, body, reply, volume, clock, sensor, field, high, low),
+        Plan::Masking {
+            sensor,
+            field,
+            and_mask,
+            or_mask,
+        } => {
+            let word = masked(sonde, sensor, field, and_mask, or_mask);
+            write(sonde, body, reply, volume, clock, sensor, field, word, 0)
+        }
+    }
+}
+
+// One frame. The numbers come first; then a bad frame is only counted.
+pub fn frame(
+    sonde: Sonde,
+    frame: &[u8],
+    reply: &mut [u8],
+    volume: &mut [u16],
+    clock: u32,
+) -> SondeFrame
+    ensures { λ r. ⌜ outcome r (now (reply .exit)) (now (volume .exit)) ≡ frameOf sonde (now (frame .entry)) (now (reply .entry)) (now (volume .entry)) clock ⌝ }
+{
+    if reply.len() < 256 {
+        return SondeFrame {
+            number: 3,
+            length: 0,
+            sonde,
+        };
+    }
+    if !calls::agrees(sonde, volume) {
+        return SondeFrame {
+            number: 4,
+            length: 0,
+            sonde,
+        };
+    }
+    if !rtu::frame::is_good(frame) {
+        return silent(sonde.count_bad());
+    }
+    answer(sonde, rtu::frame::body(frame), reply, volume, clock)
+}

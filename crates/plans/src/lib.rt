@@ -1,0 +1,136 @@
+// What a body asks of a sonde: its address, then the map of registers. Everything here is judged before any value is looked at, so the
+// control book and the frame call share it.
+ghost use mathlib.Core.Path.{_≡_};
+ghost use Rattle.plans.specs.Plans.{targetOf, readingOf, writingOf, maskingOf, requested, planOf};
+use fields::Field;
+use fields::Found;
+use modbus::Request;
+
+// The field that a write goes to, or the code that refuses it.
+pub enum Target {
+    Unfit(u8),
+    Writable { sensor: u16, field: Field },
+}
+
+pub enum Plan {
+    // Another's address.
+    Foreign,
+    // A read at address 0.
+    BroadcastRead,
+    // Refused by code 1, 3, 2, 0x80 or 0xC2.
+    Refused(u8),
+    Reading {
+        start: u16,
+        count: u16,
+    },
+    // One whole writable field of a sensor, and the words for it.
+    Writing {
+        sensor: u16,
+        field: Field,
+        high: u16,
+        low: u16,
+    },
+    Masking {
+        sensor: u16,
+        field: Field,
+        and_mask: u16,
+        or_mask: u16,
+    },
+}
+
+// The field that is exactly these registers, if it can be written at all.
+fn locate(start: u16, count: u16) -> Target
+    ensures { λ r. ⌜ r ≡ targetOf start count ⌝ }
+{
+    if !fields::all_exist(start, count) {
+        return Target::Unfit(2);
+    }
+    match fields::whole_field(start, count) {
+        Found::Row(field) => {
+            if field.access == 0 {
+                return Target::Unfit(0xC2);
+            }
+            Target::Writable {
+                sensor: start / 100,
+                field,
+            }
+        }
+        Found::Absent => Target::Unfit(0x80),
+    }
+}
+
+fn plan_read(start: u16, count: u16) -> Plan
+    ensures { λ r. ⌜ r ≡ readingOf start count ⌝ }
+{
+    if !fields::all_exist(start, count) {
+        return Plan::Refused(2);
+    }
+    Plan::Reading { start, count }
+}
+
+fn plan_write(start: u16, count: u16, high: u16, low: u16) -> Plan
+    ensures { λ r. ⌜ r ≡ writingOf high low (targetOf start count) ⌝ }
+{
+    match locate(start, count) {
+        Target::Unfit(code) => Plan::Refused(code),
+        Target::Writable { sensor, field } => Plan::Writing {
+            sensor,
+            field,
+            high,
+            low,
+        },
+    }
+}
+
+fn plan_mask(register: u16, and_mask: u16, or_mask: u16) -> Plan
+    ensures { λ r. ⌜ r ≡ maskingOf «and_mask» «or_mask» (targetOf register 1) ⌝ }
+{
+    match locate(register, 1) {
+        Target::Unfit(code) => Plan::Refused(code),
+        Target::Writable { sensor, field } => Plan::Masking {
+            sensor,
+            field,
+            and_mask,
+            or_mask,
+        },
+    }
+}
+
+// A request, judged on the map.
+fn on_map(request: Request) -> Plan
+    ensures { λ r. ⌜ r ≡ requested request ⌝ }
+{
+    match request {
+        Request::Unsupported => Plan::Refused(1),
+        Request::Malformed => Plan::Refused(3),
+        Request::Read { start, count } => plan_read(start, count),
+        Request::Write {
+            start,
+            count,
+            first,
+            second,
+        } => plan_write(start, count, first, second),
+        Request::Mask {
+            register,
+            and_mask,
+            or_mask,
+        } => plan_mask(register, and_mask, or_mask),
+    }
+}
+
+// What a body asks of the sonde with this address.
+pub fn judge(own: u8, body: &[u8]) -> Plan
+    ensures { λ r. ⌜ r ≡ planOf own (now (body .entry)) ⌝ }
+{
+    let address = modbus::address(body);
+    if address == 0 {
+        if modbus::function(body) == 3 {
+            return Plan::BroadcastRead;
+        }
+        return on_map(modbus::decode(body));
+    }
+    if address == own {
+        return on_map(modbus::decode(body));
+    }
+    Plan::Foreign
+}

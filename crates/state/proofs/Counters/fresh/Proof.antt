@@ -1,0 +1,14 @@
+use borrow.Author.Needs.{needs}
+use Rattle.state.specs.Sonde.{freshCounters}
+use Rattle.state.proofs.Counters.fresh.Statement.{statement}
+use Rattle.state.proofs.Counters.fresh.Tie as tie
+use Rattle.state.proofs.Counters.fresh.Reads as reads
+use Rattle.state.proofs.Counters.fresh.Lts as lts
+
+-- src/lib.rt:35:5
+returns : tie.Need-returns
+unfolding freshCounters
+returns c = search needs
+
+pub fresh-spec : {M : Type 1} → statement M
+fresh-spec = tie.close (tie.spec returns)

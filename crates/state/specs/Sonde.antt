@@ -1,0 +1,106 @@
+-- The state of a sonde: fresh, valid, and what changes in it. Document 01, "Sonde and calls", "The volume" ("A sonde is sound when ..") and
+-- "Frames" (the counters). Assumes nothing.
+use mathlib.Core.Bool.{Bool, false, _&&_, cond}
+use mathlib.Core.List.{List, [], _∷_}
+use Prim.Native.Nat.{ℕ, suc, _-_}
+use lib.Dec.{leb, ltb}
+use lib.Ieee.{Float, nan}
+use lib.ListN.{getD, set}
+use Rattle.sensors.specs.Sensors.{freshSensor, validSensor}
+use Rattle.sensors.specs.Changes.{measuredOf}
+use Rattle.sensors.specs.declared.Setup.{Setup}
+use Rattle.sensors.specs.declared.Sensor.{Sensor}
+use Rattle.state.specs.declared.Counters.{Counters}
+use Rattle.state.specs.declared.Sonde.{Sonde}
+
+-- ---- counters
+
+abbrev pub counters : ℕ → ℕ → ℕ → Counters
+counters good bad exceptions = record { good = good; bad = bad; exceptions = exceptions }
+
+-- "counters stop at 65535"
+unfoldable pub up : ℕ → ℕ
+up n = cond (ltb n 65535) (suc n) 65535
+
+unfoldable pub freshCounters : Counters
+freshCounters = counters 0 0 0
+
+unfoldable pub goodCounted : Counters → Counters
+goodCounted c = counters (up (c .good)) (c .bad) (c .exceptions)
+
+unfoldable pub badCounted : Counters → Counters
+badCounted c = counters (c .good) (up (c .bad)) (c .exceptions)
+
+-- "Others count good, and a refused one also as exception"
+unfoldable pub exceptionCounted : Counters → Counters
+exceptionCounted c = counters (up (c .good)) (c .bad) (up (c .exceptions))
+
+-- ---- the sonde
+
+abbrev pub sonde : ℕ → List Sensor → Counters → Sonde
+sonde address sensors c = record { address = address; sensors = sensors; counters = c }
+
+-- "Fresh: modes off, figures, units and sentinels at their defaults, .. times and counters 0, never measured"
+unfoldable pub freshSonde : ℕ → Sonde
+freshSonde address = sonde address (freshSensor 1 ∷ freshSensor 2 ∷ freshSensor 3 ∷ freshSensor 4 ∷ []) freshCounters
+
+-- what the list holds past its end: never read, since a sonde has four sensors
+abbrev pub noSensor : Sensor
+noSensor =
+    record {
+      setup = record {
+        calibrating = false;
+        active = record { first = nan; second = nan; third = nan; time = 0 };
+        trial = record { first = nan; second = nan; third = nan };
+        method = 0;
+        points = record { x1 = nan; y1 = nan; x2 = nan; y2 = nan };
+        next = 0;
+        level = 0;
+        first = record { units = 0; sentinel = nan };
+        second = record { units = 0; sentinel = nan };
+        third = record { units = 0; sentinel = nan };
+      };
+      sample = record { present = false; first = nan; second = nan };
+    }
+
+-- sensor 1, 2, 3 or 4
+unfoldable pub sensorAt : Sonde → ℕ → Sensor
+sensorAt d s = getD (d .sensors) (s - 1) noSensor
+
+unfoldable pub setupAt : Sonde → ℕ → Setup
+setupAt d s = sensorAt d s .setup
+
+unfoldable pub withSensor : Sonde → ℕ → Sensor → Sonde
+withSensor d s x = sonde (d .address) (set (d .sensors) (s - 1) x) (d .counters)
+
+unfoldable pub withSetup : Sonde → ℕ → Setup → Sonde
+withSetup d s x = withSensor d s (record { setup = x; sample = sensorAt d s .sample })
+
+-- "Measure stores the raws that it reads"
+unfoldable pub measuredAt : Sonde → ℕ → Bool → Float → Float → Sonde
+measuredAt d s present first second =
+    withSensor d s (record { setup = setupAt d s; sample = measuredOf (sensorAt d s .sample) s present first second })
+
+unfoldable pub countedGood : Sonde → Sonde
+countedGood d = sonde (d .address) (d .sensors) (goodCounted (d .counters))
+
+unfoldable pub countedBad : Sonde → Sonde
+countedBad d = sonde (d .address) (d .sensors) (badCounted (d .counters))
+
+unfoldable pub countedException : Sonde → Sonde
+countedException d = sonde (d .address) (d .sensors) (exceptionCounted (d .counters))
+
+-- ---- valid; document 01's term is sound
+
+-- "its address is 1..247"
+unfoldable pub addressValid : ℕ → Bool
+addressValid address = leb 1 address && leb address 247
+
+-- "its floats are finite, every unit, method .. and level id is in the map, and figures in force are in limits": of each sensor
+unfoldable pub validSonde : Sonde → Bool
+validSonde d =
+    addressValid (d .address)
+    && validSensor 1 (sensorAt d 1)
+    && validSensor 2 (sensorAt d 2)
+    && validSensor 3 (sensorAt d 3)
+    && validSensor 4 (sensorAt d 4)
