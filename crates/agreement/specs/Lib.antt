@@ -1,0 +1,4 @@
+pub mod Model
+pub mod Runs
+pub mod Accepted
+pub mod Agreement

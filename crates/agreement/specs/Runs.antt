@@ -1,0 +1,76 @@
+-- Lists of calls, what they leave of the sonde and of the volume, and what the control book makes of the same arguments. Document 01, "Sonde
+-- and calls" and "Control book". Assumes nothing.
+use mathlib.Core.Bool.{Bool, cond}
+use mathlib.Core.List.{List, [], _∷_}
+use Prim.Native.Nat.{ℕ}
+use lib.Dec.{eqb}
+use lib.Ieee.{Float}
+use lib.ListN.{length}
+use Rattle.state.specs.declared.Sonde.{Sonde}
+use Rattle.calls.specs.Calls.{freshOf, beginOf, powerUpOf, measureOf}
+use Rattle.calls.specs.Frame.{Outcome, frameOf}
+use Rattle.agreement.specs.Model.{Model, modelStart, modelBegin, modelPowerUp, modelFrame}
+
+-- a call with its arguments: any values of their types, NaN, infinities and hostile words included
+pub data Call : Type 0 where
+  -- bytes, reply buffer, clock
+  Frame : List ℕ → List ℕ → ℕ → Call
+  -- sensor, present, two raws
+  Measure : ℕ → Bool → Float → Float → Call
+  -- address
+  PowerUp : ℕ → Call
+  -- the words of a new volume
+  Begin : List ℕ → Call
+
+-- ---- the sonde and its volume
+
+pub record State : Type 0 where
+  pub sonde : Sonde
+  pub volume : List ℕ
+
+abbrev pub state : Sonde → List ℕ → State
+state d w = record { sonde = d; volume = w }
+
+abbrev pub frameIn : State → List ℕ → List ℕ → ℕ → Outcome
+frameIn x frame reply clock = frameOf (x .sonde) frame reply (x .volume) clock
+
+-- the number that a call gives
+unfoldable pub numberOf : State → Call → ℕ
+numberOf x (Frame frame reply clock) = frameIn x frame reply clock .number
+numberOf x (Measure s present first second) = measureOf (x .sonde) s present first second .number
+numberOf x (PowerUp address) = powerUpOf address (x .volume) .number
+numberOf x (Begin w) = beginOf (x .sonde) w .number
+
+-- what a call leaves: "The sonde goes in and comes back by value". A refused power-up "doesn't count as made: the sonde before it goes on", and
+-- a new volume that is refused isn't taken.
+unfoldable pub after : State → Call → State
+after x (Frame frame reply clock) = state (frameIn x frame reply clock .sonde) (frameIn x frame reply clock .volume)
+after x (Measure s present first second) = state (measureOf (x .sonde) s present first second .sonde) (x .volume)
+after x (PowerUp address) = cond (eqb (powerUpOf address (x .volume) .number) 0) (state (powerUpOf address (x .volume) .sonde) (x .volume)) x
+after x (Begin w) = cond (eqb (beginOf (x .sonde) w .number) 0) (state (x .sonde) (beginOf (x .sonde) w .volume)) x
+
+abbrev pub run : State → List Call → State
+run x [] = x
+run x (c ∷ cs) = run (after x c) cs
+
+-- the numbers that the calls give, in order
+abbrev pub numbers : State → List Call → List ℕ
+numbers x [] = []
+numbers x (c ∷ cs) = numberOf x c ∷ numbers (after x c) cs
+
+-- the first fresh and the first begin
+unfoldable pub start : ℕ → List ℕ → State
+start address w = state (freshOf address .sonde) (beginOf (freshOf address .sonde) w .volume)
+
+-- ---- the control book
+
+-- "Measure: nothing"; "a begin gives its volume's length", a frame of its reply buffer the length
+unfoldable pub modelAfter : Model → Call → Model
+modelAfter b (Frame frame reply clock) = modelFrame b frame (length reply) clock
+modelAfter b (Measure s present first second) = b
+modelAfter b (PowerUp address) = modelPowerUp b address
+modelAfter b (Begin w) = modelBegin b (length w)
+
+abbrev pub modelRun : Model → List Call → Model
+modelRun b [] = b
+modelRun b (c ∷ cs) = modelRun (modelAfter b c) cs
