@@ -2,14 +2,45 @@
 use mathlib.Core.Path.{refl}
 use lib.Ieee.{ofBits, toBits, round, sub, mul, div, le, eq}
 use Rattle.rtu.specs.Crc.{crcBit, crcBits, crcByte, crcFrom, crcOf}
-use Rattle.floats.specs.Floats.{near, minus, finite, isPlusZero}
-use Rattle.calibration.specs.Coefficients.{allFinite, inLimits}
-use Rattle.calibration.specs.Methods.{candidateOf, verdictOf, judgedOf}
-use Rattle.journal.specs.Words.{capacityOf}
-use Rattle.starred.specs.Starred.{Starred, worked, told}
+use Rattle.rtu.specs.Frame.{checksumOf, framed, bodyOf, isGood, overlay}
+use Rattle.modbus.specs.Request.{writeOneOf, writeMaskOf, requestOf, maskedOf}
+use Rattle.replies.specs.Reply.{marked, exceptionBody, echoReply, exceptionReply}
+use Rattle.floats.specs.Floats.{near, minus, finite, floatOf, highWord, lowWord, sameBits, isPlusZero}
+use Rattle.calibration.specs.Coefficients.{allFinite, sameCoefficients, sameCalibration, defaultsOf, inLimits}
+use Rattle.calibration.specs.Methods.{methodOf, candidateOf, verdictOf, judgedOf}
+use Rattle.entries.specs.Entries.{methodAllowed, pointsFinite, samePoints, validEntry}
+use Rattle.journal.specs.Words.{capacityOf, entryWords, numberAt, floatAt, entryAt}
+use Rattle.journal.specs.Journal.{validOpening}
+use Rattle.journal.specs.Layout.{header}
+use Rattle.journal.specs.Stores.{beginOf as beginWords, appendOf}
+use Rattle.journal.specs.Valid.{validHeader, openingAt, validOpenings, validEntryAt, chainOf, validLink, validChain, validChains, validEntries, valid}
+use Rattle.journal.specs.Replay.{replayOf}
+use Rattle.parameters.specs.Parameters.{idOf, defaultUnits, unitsAllowed, levelAllowed}
+use Rattle.fields.specs.Fields.{owns, holds, fieldAt, whole as wholeField}
+use Rattle.sensors.specs.Sensors.{freshParameter, freshSetup, freshSensor, unitsValid, levelValid, sentinelsFinite, validSetup, validSensor}
+use Rattle.sensors.specs.Changes.{restarted, calibratedAt}
+use Rattle.registers.specs.Registers.{modeOf, headRegister, sensorRegister}
+use Rattle.writes.specs.Writes.{updated, commanded, fieldWritten, writeOf}
+use Rattle.plans.specs.Plans.{targetOf, planOf}
+use Rattle.state.specs.Sonde.{up, freshCounters, goodCounted, exceptionCounted, freshSonde, sensorAt, setupAt, withSensor, withSetup, countedGood, countedException, addressValid, validSonde}
+use Rattle.calls.specs.Agrees.{openings, replayAgrees, replaysAgree, agrees}
+use Rattle.calls.specs.Calls.{beginOf}
+use Rattle.calls.specs.Frame.{sent, refusal, writtenReply, confirmation, spareIn, writeAt, maskedWord, judged, frameOf}
+use Rattle.starred.specs.Starred.{Starred, worked, told, begunWith, beginTold, asked, next, frameTold, inMode}
 
 pub starred : Starred
-unfolding crcBit crcBits crcByte crcFrom crcOf ofBits toBits round sub mul div le eq near minus finite isPlusZero allFinite inLimits candidateOf verdictOf judgedOf worked told capacityOf
+unfolding crcBit crcBits crcByte crcFrom crcOf checksumOf framed bodyOf isGood overlay
+    writeOneOf writeMaskOf requestOf maskedOf marked exceptionBody echoReply exceptionReply
+    ofBits toBits round sub mul div le eq near minus finite floatOf highWord lowWord sameBits isPlusZero
+    allFinite sameCoefficients sameCalibration defaultsOf inLimits methodOf candidateOf verdictOf judgedOf
+    methodAllowed pointsFinite samePoints validEntry capacityOf entryWords numberAt floatAt entryAt validOpening header beginWords appendOf
+    validHeader openingAt validOpenings validEntryAt chainOf validLink validChain validChains validEntries valid replayOf
+    idOf defaultUnits unitsAllowed levelAllowed owns holds fieldAt wholeField
+    freshParameter freshSetup freshSensor unitsValid levelValid sentinelsFinite validSetup validSensor restarted calibratedAt
+    modeOf headRegister sensorRegister updated commanded fieldWritten writeOf targetOf planOf
+    up freshCounters goodCounted exceptionCounted freshSonde sensorAt setupAt withSensor withSetup countedGood countedException addressValid validSonde
+    openings replayAgrees replaysAgree agrees beginOf sent refusal writtenReply confirmation spareIn writeAt maskedWord judged frameOf
+    worked told begunWith beginTold asked next frameTold inMode
 starred =
     record {
       crc-of-digits = refl;
@@ -21,5 +52,9 @@ starred =
       past-the-limit = refl;
       one-point = refl;
       minus-zero = refl;
+      mask-updates = refl;
       one-entry-fits = refl;
+      too-short = refl;
+      last-entry = refl;
+      journal-full = refl;
     }

@@ -1,8 +1,9 @@
 -- The starred cases of document 01, "Entries to test by", in its order, as statements about the definitions that the contracts cite.
--- Cases of layers above join as fields. Assumes nothing.
+-- Assumes nothing.
 use mathlib.Core.Path.{_≡_}
 use mathlib.Core.List.{List, [], _∷_}
 use Prim.Native.Nat.{ℕ}
+use lib.ListN.{getD, take, replicate}
 use lib.Ieee.{Float, binary32, ofBits, toBits}
 use Rattle.rtu.specs.Crc.{crcOf}
 use Rattle.floats.specs.Floats.{near, plusZero}
@@ -13,7 +14,10 @@ use Rattle.calibration.specs.declared.methods.Candidate.{Candidate}
 use Rattle.calibration.specs.declared.methods.Candidate.the-variants.{Made, ZeroX, SameX}
 use Rattle.calibration.specs.declared.methods.Verdict.{Verdict}
 use Rattle.calibration.specs.declared.methods.Verdict.the-variants.{Accepted, OutsideLimits, NotFinite, Undefined}
-use Rattle.journal.specs.Words.{capacityOf}
+use Rattle.state.specs.Sonde.{freshSonde}
+use Rattle.state.specs.declared.Sonde.{Sonde}
+use Rattle.calls.specs.Calls.{Begun, beginOf}
+use Rattle.calls.specs.Frame.{Outcome, frameOf}
 
 -- the bits of coefficients
 abbrev pub bits : Coefficients → List ℕ
@@ -36,6 +40,39 @@ told Undefined = codeOf Undefined ∷ []
 abbrev pub whole : ℕ → Float
 whole n = near n 1
 
+-- a fresh sonde of address 1 begins a volume of so many words
+unfoldable pub begunWith : ℕ → Begun
+begunWith words = beginOf (freshSonde 1) (replicate words 0)
+
+-- what a begin tells: its number, the capacity
+unfoldable pub beginTold : Begun → List ℕ
+beginTold b = b .number ∷ getD (b .volume) 1 0 ∷ []
+
+-- a frame at clock 7 for a sonde and its volume, and one more for what it leaves
+unfoldable pub asked : Sonde → List ℕ → List ℕ → Outcome
+asked d volume frame = frameOf d frame (replicate 256 0) volume 7
+
+unfoldable pub next : Outcome → List ℕ → Outcome
+next o frame = asked (o .sonde) (o .volume) frame
+
+-- what a frame tells: its number, the entries in use, then the reply
+unfoldable pub frameTold : Outcome → List ℕ
+frameTold o = o .number ∷ getD (o .volume) 2 0 ∷ take (o .size) (o .reply)
+
+-- to register 105, the command of sensor 1: mode on, update, and the mask with A 0 and B 0xE001
+abbrev pub modeOn : List ℕ
+modeOn = 0x01 ∷ 0x06 ∷ 0x00 ∷ 0x69 ∷ 0xE0 ∷ 0x00 ∷ 0x10 ∷ 0x16 ∷ []
+
+abbrev pub update : List ℕ
+update = 0x01 ∷ 0x06 ∷ 0x00 ∷ 0x69 ∷ 0xE0 ∷ 0x01 ∷ 0xD1 ∷ 0xD6 ∷ []
+
+abbrev pub masked : List ℕ
+masked = 0x01 ∷ 0x16 ∷ 0x00 ∷ 0x69 ∷ 0x00 ∷ 0x00 ∷ 0xE0 ∷ 0x01 ∷ 0x22 ∷ 0x0F ∷ []
+
+-- the sonde in mode, with one entry spare
+unfoldable pub inMode : Outcome
+inMode = asked (freshSonde 1) (begunWith 88 .volume) modeOn
+
 pub record Starred : Type 0 where
   -- "CRC of "123456789" is 0x4B37"
   pub crc-of-digits : crcOf (0x31 ∷ 0x32 ∷ 0x33 ∷ 0x34 ∷ 0x35 ∷ 0x36 ∷ 0x37 ∷ 0x38 ∷ 0x39 ∷ []) ≡ 0x4B37
@@ -53,5 +90,11 @@ pub record Starred : Type 0 where
   pub one-point : told (judgedOf 1 (OnePoint (whole 1000) (whole 1250))) ≡ 0 ∷ 0 ∷ 0x3FA00000 ∷ 0 ∷ []
   -- "One point, x1 = -0.0: 0x97"
   pub minus-zero : told (judgedOf 1 (OnePoint (ofBits binary32 0x80000000) (whole 1250))) ≡ 0x97 ∷ []
-  -- "88 words: capacity 1"
-  pub one-entry-fits : capacityOf 88 ≡ 1
+  -- "Mask on command, mode on, A 0, B 0xE001: an update"
+  pub mask-updates : frameTold (next inMode masked) ≡ 0 ∷ 1 ∷ masked
+  -- "88 words: capacity 1; 87: number 2"
+  pub one-entry-fits : beginTold (begunWith 88) ≡ 0 ∷ 1 ∷ []
+  pub too-short : begunWith 87 .number ≡ 2
+  -- "Update in mode with one entry spare, accepted; the next, 0xC0"
+  pub last-entry : frameTold (next inMode update) ≡ 0 ∷ 1 ∷ update
+  pub journal-full : frameTold (next (next inMode update) update) ≡ 0 ∷ 1 ∷ 0x01 ∷ 0x86 ∷ 0xC0 ∷ 0x42 ∷ 0x30 ∷ []

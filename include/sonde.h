@@ -1,0 +1,127 @@
+/*
+ * The register service of a water-quality sonde: four sensors, their calibration, and the journal of every accepted calibration.
+ *
+ * Six calls. Each is a function of its arguments alone: no call keeps anything, allocates, blocks or fails to return. The sonde goes in and
+ * comes back by value; the host keeps it between calls. The volume (the words of the journal) is the host's memory and is lent for the call.
+ * Calls on different sondes and volumes may run at the same time.
+ *
+ * Link with libsonde.a (`rt staticlib sonde` writes target/staticlib/libsonde.a, for x86-64).
+ *
+ *     uint16_t volume[24064];
+ *     uint8_t reply[SONDE_REPLY_BYTES];
+ *     SondeMade made = sonde_fresh(1);
+ *     if (made.number != SONDE_OK || sonde_begin(made.sonde, volume, 24064) != SONDE_OK) { ... }
+ *     Sonde sonde = made.sonde;
+ *     for (;;) {
+ *         size_t n = next_frame(bytes);                 the host cuts frames by silence
+ *         SondeFrame f = sonde_frame(sonde, bytes, n, reply, sizeof reply, volume, 24064, seconds());
+ *         if (f.number != SONDE_OK) { ... }             nothing was changed
+ *         sonde = f.sonde;
+ *         if (f.length > 0) send(reply, f.length);
+ *     }
+ *
+ * Pointers: each is valid for its length, aligned for its type, not null even where the length is 0, and no two lent parts overlap.
+ */
+#ifndef SONDE_H
+#define SONDE_H
+
+#include <stdbool.h>
+#include <stddef.h>
+#include <stdint.h>
+
+#ifdef __cplusplus
+extern "C" {
+#endif
+
+/* ---- sizes ---- */
+
+#define SONDE_REPLY_BYTES 256  /* the least reply buffer; a reply is never longer */
+#define SONDE_LEAST_WORDS 88   /* the least volume: capacity 1 */
+#define SONDE_MOST_WORDS 24064 /* words beyond these are never used: capacity 1000 */
+
+/* ---- numbers: what a call is refused by. A call that is refused changes nothing. ---- */
+
+enum {
+    SONDE_OK = 0,             /* done; also of a frame that was answered by an exception, or got no reply */
+    SONDE_BAD_ADDRESS = 1,    /* fresh, power-up: the address isn't 1..247 */
+    SONDE_SHORT_VOLUME = 2,   /* begin: fewer than 88 words */
+    SONDE_SHORT_REPLY = 3,    /* frame: the reply buffer has fewer than 256 bytes */
+    SONDE_INVALID = 4,        /* the sonde or the volume is invalid, or the calibrations in force aren't the volume's, bit for bit */
+    SONDE_NO_SENSOR = 5,      /* measure: the sensor isn't 1..4 */
+    SONDE_NOT_FINITE = 6      /* measure, present: a raw value that is read isn't finite */
+};
+
+/* ---- the sonde. A host copies it and need not look inside; a sonde that it builds by hand has to be valid (number 4). ---- */
+
+typedef struct { float first, second, third; } SondeCoefficients;
+typedef struct { float first, second, third; uint32_t time; } SondeCalibration;
+typedef struct { float x1, y1, x2, y2; } SondePoints;
+typedef struct { uint16_t units; float sentinel; } SondeParameter;
+
+/* What frames write, and what a calibration decides. */
+typedef struct {
+    bool calibrating;         /* calibration mode */
+    SondeCalibration active;  /* the coefficients in force, and when they were calibrated */
+    SondeCoefficients trial;  /* those that mode shows and changes */
+    uint16_t method;          /* 0 direct, 1 one point, 2 two points */
+    SondePoints points;
+    uint32_t next;            /* the next calibration's time */
+    uint16_t level;           /* the level parameter's id, on sensor 3 */
+    SondeParameter first, second, third;
+} SondeSetup;
+
+/* What measurements write. */
+typedef struct { bool present; float first, second; } SondeSample;
+
+typedef struct { SondeSetup setup; SondeSample sample; } SondeSensor;
+
+typedef struct { uint16_t good, bad, exceptions; } SondeCounters;
+
+/* Sensors 1 conductivity, 2 dissolved oxygen, 3 level and 4 chlorophyll-a are elements 0 to 3. */
+typedef struct { uint8_t address; SondeSensor sensors[4]; SondeCounters counters; } Sonde;
+
+/* ---- what calls hand back ---- */
+
+typedef struct { uint8_t number; Sonde sonde; } SondeMade;
+typedef struct { uint8_t number; uint16_t length; Sonde sonde; } SondeFrame;
+typedef struct { uint8_t number; uint16_t entries; } SondeAudit;
+
+/* ---- the calls ---- */
+
+/* A sonde as it leaves the works, with this address. Refused by 1; the sonde is then the fresh one of address 1 and doesn't count as made. */
+SondeMade sonde_fresh(uint8_t address);
+
+/*
+ * Begins a journal in a volume: words 0..63 are written, with the calibrations in force as its opening; the others stay. The sonde goes on
+ * unchanged. Refused by 2, then 4 (the sonde alone is looked at); the volume then stays as it was.
+ */
+uint8_t sonde_begin(Sonde sonde, uint16_t *volume, size_t words);
+
+/*
+ * The sonde after a power cut: the calibrations that the volume's journal gives, all else as fresh. Refused by 1, then 4 (the volume alone is
+ * looked at); the sonde is then the fresh one of address 1 and doesn't count as made: a host that has a sonde goes on with it.
+ */
+SondeMade sonde_power_up(uint8_t address, const uint16_t *volume, size_t words);
+
+/*
+ * A measurement of sensor 1..4, with its raw values. The second is read for sensor 1 only (its temperature). Not present, none is read and
+ * the old ones stay. Refused by 4 (the sonde alone is looked at), 5, then 6; the sonde is then the one that went in.
+ */
+SondeMade sonde_measure(Sonde sonde, uint8_t sensor, bool present, float first, float second);
+
+/*
+ * One Modbus RTU frame, whole and with its checksum, at this clock (whole seconds). `length` bytes of the reply buffer are the reply to send,
+ * 0 for none; the bytes past them stay. The volume changes by an accepted calibration alone: write it to safe storage before the reply is
+ * sent. Refused by 3, then 4; the length is then 0, and sonde, reply and volume stay as they were.
+ */
+SondeFrame sonde_frame(Sonde sonde, const uint8_t *frame, size_t frame_len, uint8_t *reply, size_t reply_len, uint16_t *volume, size_t words,
+                       uint32_t clock);
+
+/* Whether the sonde and its volume are valid and agree: 0 with the entries in use, or 4 with 0. Changes nothing. */
+SondeAudit sonde_audit(Sonde sonde, const uint16_t *volume, size_t words);
+
+#ifdef __cplusplus
+}
+#endif
+
+#endif
