@@ -1,11 +1,9 @@
+-- `state::address_valid` meets its contract. Assumes nothing.
 use borrow.Author.Needs.{needs}
 use Rattle.state.specs.Sonde.{addressValid}
 use Rattle.state.proofs.address_valid.Statement.{statement}
 use Rattle.state.proofs.address_valid.Tie as tie
-use Rattle.state.proofs.address_valid.Reads as reads
-use Rattle.state.proofs.address_valid.Lts as lts
 
--- src/lib.rt:74:1
 returns : tie.Need-returns
 unfolding addressValid
 returns c = search needs

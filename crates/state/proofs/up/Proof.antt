@@ -1,25 +1,18 @@
+-- `state::up` meets its contract. Assumes nothing.
 use native.Mathlib.Omega.{arith}
 use borrow.Author.Tests.{le-ltb, lt-ltb}
 use Rattle.state.specs.Sonde.{up}
 use borrow.Author.Needs.{needs}
 use Rattle.state.proofs.up.Statement.{statement}
 use Rattle.state.proofs.up.Tie as tie
-use Rattle.state.proofs.up.Reads as reads
-use Rattle.state.proofs.up.Lts as lts
 
--- src/lib.rt:29:16
-add-result : tie.Need-add-result
-add-result c = search needs
-
--- src/lib.rt:29:9
 returns : tie.Need-returns
 unfolding up
 returns c = simp (lt-ltb _ _ (c .if1 .taken)) (omega arith)
 
--- src/lib.rt:25:1
 returns-2 : tie.Need-returns-2
 unfolding up
 returns-2 c = simp (le-ltb _ _ (c .if1 .left))
 
 pub up-spec : {M : Type 1} → statement M
-up-spec = tie.close (tie.spec add-result returns returns-2)
+up-spec = tie.close (tie.spec (λ c. search needs) returns returns-2)

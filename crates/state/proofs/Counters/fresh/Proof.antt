@@ -1,11 +1,9 @@
+-- `state::Counters::fresh` meets its contract. Assumes nothing.
 use borrow.Author.Needs.{needs}
 use Rattle.state.specs.Sonde.{freshCounters}
 use Rattle.state.proofs.Counters.fresh.Statement.{statement}
 use Rattle.state.proofs.Counters.fresh.Tie as tie
-use Rattle.state.proofs.Counters.fresh.Reads as reads
-use Rattle.state.proofs.Counters.fresh.Lts as lts
 
--- src/lib.rt:35:5
 returns : tie.Need-returns
 unfolding freshCounters
 returns c = search needs
