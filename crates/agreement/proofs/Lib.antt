@@ -1,0 +1,3 @@
+pub mod Sondes
+pub mod Invariant
+pub mod Calls
