@@ -1,8 +1,8 @@
--- A measure, a power-up and a begin keep the invariant and don't give number 4; so the first fresh and begin bring it about.
+-- A measure, a power-up and a begin keep the invariant and don't give number 4, and the first fresh and begin bring it about.
 -- Assumes nothing.
 use mathlib.Core.Path.{_≡_, refl, sym, ap, _∙_}
-use mathlib.Core.Bool.{Bool, true, false, not, cond}
-use mathlib.Core.List.{List, []}
+use mathlib.Core.Bool.{Bool, true, false, not}
+use mathlib.Core.List.{List}
 use Prim.Native.Nat.{ℕ, _≤_}
 use native.Mathlib.Omega.{arith}
 use lib.Dec.{eqb, ltb}
@@ -11,25 +11,25 @@ use lib.Ieee.Bits.{is-true}
 use lib.ListN.{length}
 use borrow.Author.Tests.{ltb-false, le-ltb}
 use Rattle.floats.proofs.Bools.{no, choose}
-use Rattle.calibration.specs.Coefficients.{allFinite, coefficientsOf, inLimits}
+use Rattle.calibration.specs.Coefficients.{coefficientsOf}
 use Rattle.calibration.specs.declared.coefficients.Calibration.{Calibration}
 use Rattle.calibration.proofs.Bits.{CoefficientsFit}
 use Rattle.entries.specs.Entries.{calibrationFits}
-use Rattle.journal.specs.Journal.{IsSensor, openingOf, four, validOpening}
+use Rattle.journal.specs.Journal.{IsSensor, openingOf, validOpening}
 use Rattle.journal.specs.Stores.{beginOf as beginWords, begun}
 use Rattle.journal.proofs.Tests.{sensor-cases, four-intro}
 use Rattle.journal.proofs.Holds.{begin-holds}
 use Rattle.sensors.specs.Changes.{calibratedAt}
 use Rattle.sensors.specs.declared.Setup.{Setup}
 use Rattle.sensors.proofs.Setups.{valid-setup-parts}
-use Rattle.state.specs.Sonde.{setupAt, addressValid, validSonde, freshSonde}
+use Rattle.state.specs.Sonde.{setupAt, addressValid, validSonde}
 use Rattle.state.specs.declared.Sonde.{Sonde}
 use Rattle.calls.specs.Agrees.{openings}
-use Rattle.calls.specs.Calls.{made, unmade, freshOf, Begun, beginOf, rawsFinite, measureOf, poweredSetup, powered, powerUpOf}
+use Rattle.calls.specs.Calls.{unmade, freshOf, Begun, beginOf, rawsFinite, measureOf, poweredSetup, powerUpOf}
 use Rattle.calls.specs.declared.SondeMade.{SondeMade}
 use Rattle.agreement.specs.Model.{Model, model, setupOf, actives, modelStart, modelBegin, poweredSetups, modelPowerUp}
 use Rattle.agreement.specs.Runs.{Call, State, state, numberOf, after, start, modelAfter}
-use Rattle.agreement.specs.Runs.Call.{Frame, Measure, PowerUp, Begin}
+use Rattle.agreement.specs.Runs.Call.{Measure, PowerUp, Begin}
 use Rattle.agreement.specs.Accepted.{noted}
 use Rattle.agreement.proofs.Sondes.{Matches, sonde-valid, setup-same, setup-valid, setup-fits, measured, powered-up, fresh-matches}
 use Rattle.agreement.proofs.Invariant.{Invariant, opening-at, volume-valid, replay-same}
@@ -42,6 +42,7 @@ pub record Keeps (x : State) (b : Model) (c : Call) : Type 0 where
 
 -- ---- measure
 
+-- "Measure: nothing", whatever the sensor and the raws
 pub measure-keeps : {x : State} {b : Model} → Invariant x b → (s : ℕ) (present : Bool) (first second : Float) → Keeps x b (Measure s present first second)
 unfolding numberOf after modelAfter noted measureOf
 measure-keeps {x} {b} h s present first second = record { never-four = go .0; invariant = go .1; entries = refl }
@@ -61,10 +62,12 @@ measure-keeps {x} {b} h s present first second = record { never-four = go .0; in
 
 -- ---- power-up
 
+-- a power-up leaves what is in force
 setup-powered : (ys : List Setup) (s : ℕ) → IsSensor s → setupOf (poweredSetups ys) s .active ≡ setupOf ys s .active
 unfolding poweredSetups setupOf poweredSetup calibratedAt
 setup-powered ys = sensor-cases (λ s. setupOf (poweredSetups ys) s .active ≡ setupOf ys s .active) refl refl refl refl
 
+-- the calibrations that the volume gives are the book's
 pub power-up-keeps : {x : State} {b : Model} → Invariant x b → (address : ℕ) → Keeps x b (PowerUp address)
 unfolding numberOf after modelAfter noted powerUpOf unmade modelPowerUp
 power-up-keeps {x} {b} h address = go (addressValid address) refl
@@ -86,6 +89,7 @@ power-up-keeps {x} {b} h address = go (addressValid address) refl
 
 -- ---- begin
 
+-- coefficients of the format, as one test
 all-fit : (c : Calibration) → CoefficientsFit (coefficientsOf c) → calibrationFits c ≡ true
 unfolding calibrationFits
 all-fit c f =
@@ -99,7 +103,9 @@ begin-invariant {d} {address} {ys} m w l =
     rw (← same)
     (record {
       matches = m;
-      holds = begin-holds w (openings d) l (four-intro (λ s. validOpening s (openingOf (openings d) s)) opens) (four-intro (λ s. calibrationFits (openingOf (openings d) s)) fit);
+      holds =
+          begin-holds w (openings d) l (four-intro (λ s. validOpening s (openingOf (openings d) s)) opens)
+          (four-intro (λ s. calibrationFits (openingOf (openings d) s)) fit);
       followed = λ s k. opening-at d s k ∙ ap (λ (y : Setup). y .active) (setup-same m s k);
     })
   where
@@ -112,6 +118,7 @@ begin-invariant {d} {address} {ys} m w l =
     fit : (s : ℕ) → IsSensor s → calibrationFits (openingOf (openings d) s) ≡ true
     fit s k = rw (opening-at d s k) (all-fit (setupAt d s .active) (setup-fits m s k .fits-active))
 
+-- a volume that is too short isn't taken
 pub begin-keeps : {x : State} {b : Model} → Invariant x b → (w : List ℕ) → Keeps x b (Begin w)
 unfolding numberOf after modelAfter noted beginOf modelBegin
 begin-keeps {x} {b} h w = go (ltb (length w) 88) refl
@@ -127,6 +134,7 @@ begin-keeps {x} {b} h w = go (ltb (length w) 88) refl
 
 -- ---- the first fresh and begin
 
+-- what it says that neither is refused
 fresh-made : (address : ℕ) → freshOf address .number ≡ 0 → addressValid address ≡ true
 unfolding freshOf unmade
 fresh-made address = choose (λ (r : SondeMade). r .number ≡ 0 → addressValid address ≡ true) (addressValid address) _ _ (λ v e. v) (λ v e. absurd (omega arith))
@@ -135,6 +143,7 @@ begin-made : (d : Sonde) (w : List ℕ) → beginOf d w .number ≡ 0 → 88 ≤
 unfolding beginOf
 begin-made d w = choose (λ (r : Begun). r .number ≡ 0 → 88 ≤ length w) (ltb (length w) 88) _ _ (λ l e. absurd (omega arith)) (λ l e. ltb-false (length w) 88 l)
 
+-- they bring the invariant about
 pub start-invariant : (address : ℕ) (w : List ℕ) → freshOf address .number ≡ 0 → beginOf (freshOf address .sonde) w .number ≡ 0
     → Invariant (start address w) (modelStart address (length w))
 unfolding freshOf beginOf start modelStart

@@ -1,5 +1,5 @@
 -- A frame keeps the invariant and doesn't give number 4, whatever its bytes. Assumes nothing.
-use mathlib.Core.Path.{_≡_, refl, sym, ap, _∙_}
+use mathlib.Core.Path.{_≡_, refl}
 use mathlib.Core.Bool.{Bool, true, false, cond}
 use mathlib.Core.List.{List}
 use Prim.Native.Nat.{ℕ}
@@ -7,10 +7,7 @@ use lib.Dec.{eqb, ltb}
 use lib.ListN.{length}
 use Rattle.rtu.specs.Frame.{isGood, bodyOf}
 use Rattle.fields.specs.declared.Field.{Field}
-use Rattle.fields.specs.declared.Found.the-variants.{Row}
-use Rattle.fields.specs.Fields.{fieldAt}
 use Rattle.fields.proofs.Registers.{found-rule}
-use Rattle.fields.proofs.Table.{rowAt}
 use Rattle.fields.proofs.Writable.{writable, writable-rows}
 use Rattle.plans.specs.Plans.{planOf}
 use Rattle.plans.specs.declared.Plan.{Plan}
@@ -19,7 +16,7 @@ use Rattle.plans.proofs.Plans.{Located, Facts, plan-facts}
 use Rattle.state.specs.Sonde.{countedGood, countedBad}
 use Rattle.calls.specs.Frame.{reading, writeAt, maskedWord, planned, judged, frameOf}
 use Rattle.agreement.specs.Model.{Model, modelPlanned, modelFrame}
-use Rattle.agreement.specs.Runs.{Call, State, frameIn, numberOf, after, modelAfter}
+use Rattle.agreement.specs.Runs.{State, frameIn, numberOf, after, modelAfter}
 use Rattle.agreement.specs.Runs.Call.{Frame}
 use Rattle.agreement.specs.Accepted.{updatedBy, codeBy, planIn, calibrates, noted}
 use Rattle.agreement.proofs.Invariant.{Invariant, agrees-with}
@@ -39,7 +36,7 @@ module _ {x : State} {b : Model} (h : Invariant x b) (body reply : List ℕ) (cl
   unfolding countedGood reading
   plan-keeps Foreign l = record { no-number = refl; invariant = h; entries = refl }
   plan-keeps BroadcastRead l = record { no-number = refl; invariant = counted-keeps h _; entries = refl }
-  plan-keeps (Refused code) l = rw (none (eqb code 0)) (record { no-number = refl; invariant = refused-keeps h body reply code; entries = refl })
+  plan-keeps (Refused code) l = rw (none (eqb code 0)) (record { no-number = refl; invariant = refused-keeps h body code; entries = refl })
     where
       none : (t : Bool) → _≡_ {A = ℕ} (cond t 0 0) 0
       none true = refl
@@ -55,6 +52,7 @@ module _ {x : State} {b : Model} (h : Invariant x b) (body reply : List ℕ) (cl
       (written-keeps h s k f m 0 clock body reply (writeAt (x .sonde) (x .volume) clock s f m 0) refl)
 
 module _ {x : State} {b : Model} (h : Invariant x b) (frame reply : List ℕ) (clock : ℕ) where
+  -- any frame, with any reply buffer
   pub frame-keeps : Keeps x b (Frame frame reply clock)
   unfolding numberOf after modelAfter noted calibrates frameOf judged modelFrame countedBad
   frame-keeps = room (ltb (length reply) 256) refl

@@ -2,24 +2,19 @@
 -- Assumes nothing.
 use mathlib.Core.Path.{_≡_, refl, sym, ap, _∙_}
 use mathlib.Core.Bool.{true}
-use Prim.Native.Nat.{ℕ, _+_, _≤_, _<_}
+use Prim.Native.Nat.{ℕ}
 use native.Mathlib.Nat.{zero-add}
-use native.Mathlib.Omega.{arith}
-use lib.ListN.{length, getD}
-use Rattle.calibration.specs.Coefficients.{allFinite, coefficientsOf, inLimits, sameCalibration}
+use Rattle.calibration.specs.Coefficients.{sameCalibration}
 use Rattle.calibration.proofs.Bits.{same-calibration-refl}
-use Rattle.entries.specs.declared.Entry.{Entry}
-use Rattle.journal.specs.Journal.{Journal, IsSensor, openingOf, indicesFrom, ascends, latest, on}
-use Rattle.journal.specs.Valid.{chain, chainOf, member, valid}
+use Rattle.journal.specs.Journal.{IsSensor, openingOf, indicesFrom, latest}
+use Rattle.journal.specs.Valid.{chainOf, valid}
 use Rattle.journal.specs.Replay.{replayOf}
 use Rattle.journal.proofs.Tests.{sensor-cases, four-intro}
 use Rattle.journal.proofs.Chains.{indices-ascend, indices-member, chain-ends}
 use Rattle.journal.proofs.Holds.{Holds, holds-valid, holds-used, holds-chain, holds-replay}
-use Rattle.sensors.specs.Sensors.{validSetup, validSensor}
 use Rattle.sensors.specs.declared.Setup.{Setup}
-use Rattle.sensors.specs.declared.Sensor.{Sensor}
-use Rattle.sensors.proofs.Setups.{SetupFits, valid-setup-parts, valid-sensor-parts}
-use Rattle.state.specs.Sonde.{sensorAt, setupAt, addressValid, validSonde}
+use Rattle.sensors.proofs.Setups.{valid-setup-parts}
+use Rattle.state.specs.Sonde.{setupAt}
 use Rattle.state.specs.declared.Sonde.{Sonde}
 use Rattle.calls.specs.Agrees.{openings, replayAgrees, replaysAgree, agrees}
 use Rattle.calls.specs.Calls.{auditOf}
@@ -42,13 +37,16 @@ opening-at d = sensor-cases (λ s. openingOf (openings d) s ≡ setupAt d s .act
 module _ {x : State} {b : Model} (h : Invariant x b) where
   -- ---- number 4 isn't due
 
+  -- the volume is valid
   pub volume-valid : valid (x .volume) ≡ true
   volume-valid = holds-valid (x .volume) (b .journal) (h .holds)
 
+  -- its replay is what is in force
   pub replay-same : (s : ℕ) → IsSensor s → replayOf (x .volume) s ≡ setupAt (x .sonde) s .active
   replay-same s k =
       holds-replay (x .volume) (b .journal) (h .holds) s k ∙ h .followed s k ∙ ap (λ (y : Setup). y .active) (sym (setup-same (h .matches) s k))
 
+  -- so the sonde agrees with it
   pub agrees-with : agrees (x .sonde) (x .volume) ≡ true
   unfolding agrees replaysAgree replayAgrees
   agrees-with =
@@ -64,6 +62,7 @@ module _ {x : State} {b : Model} (h : Invariant x b) where
   chain-is : (s : ℕ) → IsSensor s → chainOf (x .volume) s ≡ indicesFrom 0 s (b .journal .entries)
   chain-is = holds-chain (x .volume) (b .journal) (h .holds)
 
+  -- all that demand 3 asks of the two after the last call
   pub agree : Agree x b
   unfolding auditOf
   agree =

@@ -1,9 +1,9 @@
 -- A sonde beside the book's address and setups: valid, of the format and the same in every value that frames write. It stays so where a sensor
 -- is measured, a setup is stored, a counter counts, and after a power-up; a fresh one is so. Assumes nothing.
-use mathlib.Core.Path.{_≡_, refl, sym, ap, subst, _∙_}
+use mathlib.Core.Path.{_≡_, refl}
 use mathlib.Core.Bool.{Bool, true, false, _&&_, cond}
-use mathlib.Core.List.{List}
-use Prim.Native.Nat.{ℕ, _-_, _≤_, _<_}
+use mathlib.Core.List.{List, [], _∷_}
+use Prim.Native.Nat.{ℕ, _-_}
 use native.Mathlib.Omega.{arith}
 use lib.Dec.{eqb}
 use lib.Ieee.{Float}
@@ -13,7 +13,6 @@ use borrow.Author.Tests.{eqb-true, eqb-false}
 use Rattle.floats.specs.Floats.{finite}
 use Rattle.floats.proofs.Bools.{both}
 use Rattle.calibration.specs.Coefficients.{coefficientsOf}
-use Rattle.calibration.specs.declared.coefficients.Calibration.{Calibration}
 use Rattle.journal.specs.Journal.{IsSensor}
 use Rattle.journal.specs.Replay.{replayOf}
 use Rattle.journal.proofs.Tests.{sensor-cases}
@@ -21,7 +20,7 @@ use Rattle.sensors.specs.Sensors.{freshSetup, freshSensor, validSetup, validSen
 use Rattle.sensors.specs.Changes.{calibratedAt}
 use Rattle.sensors.specs.declared.Setup.{Setup}
 use Rattle.sensors.specs.declared.Sensor.{Sensor}
-use Rattle.sensors.proofs.Setups.{ValidSetup, SetupFits, valid-setup-parts, valid-sensor-parts, fresh-valid, fresh-fits, fresh-sensor-valid}
+use Rattle.sensors.proofs.Setups.{SetupFits, valid-setup-parts, valid-sensor-parts, fresh-valid, fresh-fits, fresh-sensor-valid}
 use Rattle.sensors.proofs.Changed.{calibrated-valid, calibrated-fits, measured-valid}
 use Rattle.state.specs.Sonde.{sonde, freshSonde, noSensor, sensorAt, setupAt, withSensor, withSetup, measuredAt, addressValid, validSonde}
 use Rattle.state.specs.declared.Counters.{Counters}
@@ -35,12 +34,28 @@ pub record SensorMatches (s : ℕ) (x : Sensor) (y : Setup) : Type 0 where
   pub valid-sensor : validSensor s x ≡ true
   pub fits : SetupFits (x .setup)
 
+-- a sonde beside the book's address and setups
 pub record Matches (d : Sonde) (address : ℕ) (ys : List Setup) : Type 0 where
   pub address-is : d .address ≡ address
   pub address-valid : addressValid (d .address) ≡ true
   pub four-sensors : length (d .sensors) ≡ 4
   pub four-setups : length ys ≡ 4
   pub each : (s : ℕ) → IsSensor s → SensorMatches s (sensorAt d s) (setupOf ys s)
+
+-- four sensors that match
+of-four : {x1 x2 x3 x4 : Sensor} {y1 y2 y3 y4 : Setup} (address : ℕ) (c : Counters) → addressValid address ≡ true
+    → SensorMatches 1 x1 y1 → SensorMatches 2 x2 y2 → SensorMatches 3 x3 y3 → SensorMatches 4 x4 y4
+    → Matches (sonde address (x1 ∷ x2 ∷ x3 ∷ x4 ∷ []) c) address (y1 ∷ y2 ∷ y3 ∷ y4 ∷ [])
+unfolding sensorAt setupOf
+of-four {x1} {x2} {x3} {x4} {y1} {y2} {y3} {y4} address c v m1 m2 m3 m4 =
+    record {
+      address-is = refl;
+      address-valid = v;
+      four-sensors = refl;
+      four-setups = refl;
+      each =
+          sensor-cases (λ s. SensorMatches s (sensorAt (sonde address (x1 ∷ x2 ∷ x3 ∷ x4 ∷ []) c) s) (setupOf (y1 ∷ y2 ∷ y3 ∷ y4 ∷ []) s)) m1 m2 m3 m4;
+    }
 
 -- ---- one of four replaced
 
@@ -88,6 +103,7 @@ powered-matches s k x v f =
 -- ---- a sonde that matches
 
 module _ {d : Sonde} {address : ℕ} {ys : List Setup} (m : Matches d address ys) where
+  -- it is valid
   pub sonde-valid : validSonde d ≡ true
   unfolding validSonde
   sonde-valid =
@@ -99,14 +115,17 @@ module _ {d : Sonde} {address : ℕ} {ys : List Setup} (m : Matches d address ys
         m .each 4 (omega arith) .valid-sensor,
       )
 
+  -- its setups are the book's
   pub setup-same : (s : ℕ) → IsSensor s → setupAt d s ≡ setupOf ys s
   unfolding setupAt
   setup-same s k = m .each s k .setup-is
 
+  -- they are valid
   pub setup-valid : (s : ℕ) → IsSensor s → validSetup s (setupAt d s) ≡ true
   unfolding setupAt
   setup-valid s k = valid-sensor-parts s (sensorAt d s) (m .each s k .valid-sensor) .0
 
+  -- and of the format
   pub setup-fits : (s : ℕ) → IsSensor s → SetupFits (setupAt d s)
   unfolding setupAt
   setup-fits s k = m .each s k .fits
@@ -160,32 +179,18 @@ module _ {d : Sonde} {address : ℕ} {ys : List Setup} (m : Matches d address ys
       raws = raws-read s present first second f
 
   -- a power-up from a volume whose replay is the calibrations in force
-  pub powered-up : (a : ℕ) (w : List ℕ) → addressValid a ≡ true → ((s : ℕ) → IsSensor s → replayOf w s ≡ setupAt d s .active) → Matches (powered a w) a (poweredSetups ys)
-  unfolding powered poweredSetups sensorAt setupOf
-  powered-up a w v r =
-      record {
-        address-is = refl;
-        address-valid = v;
-        four-sensors = refl;
-        four-setups = refl;
-        each = sensor-cases (λ s. SensorMatches s (sensorAt (powered a w) s) (setupOf (poweredSetups ys) s)) (one 1 (omega arith)) (one 2 (omega arith)) (one 3 (omega arith)) (one 4 (omega arith));
-      }
+  pub powered-up : (a : ℕ) (w : List ℕ) → addressValid a ≡ true → ((s : ℕ) → IsSensor s → replayOf w s ≡ setupAt d s .active)
+      → Matches (powered a w) a (poweredSetups ys)
+  unfolding powered poweredSetups setupOf
+  powered-up a w v r = of-four a _ v (one 1 (omega arith)) (one 2 (omega arith)) (one 3 (omega arith)) (one 4 (omega arith))
     where
       one : (s : ℕ) → IsSensor s → SensorMatches s (poweredSensor s (replayOf w s)) (poweredSetup s (getD ys (s - 1) (noSensor .setup) .active))
       one s k = rw (r s k, ← (setup-same s k)) (powered-matches s k (setupAt d s) (setup-valid s k) (setup-fits s k))
 
--- ---- fresh
-
+-- a fresh sonde matches fresh setups
 pub fresh-matches : (address : ℕ) → addressValid address ≡ true → Matches (freshSonde address) address freshSetups
-unfolding freshSonde freshSetups sensorAt setupOf freshSensor
-fresh-matches address v =
-    record {
-      address-is = refl;
-      address-valid = v;
-      four-sensors = refl;
-      four-setups = refl;
-      each = sensor-cases (λ s. SensorMatches s (sensorAt (freshSonde address) s) (setupOf freshSetups s)) (one 1 (omega arith)) (one 2 (omega arith)) (one 3 (omega arith)) (one 4 (omega arith));
-    }
+unfolding freshSonde freshSetups freshSensor
+fresh-matches address v = of-four address _ v (one 1 (omega arith)) (one 2 (omega arith)) (one 3 (omega arith)) (one 4 (omega arith))
   where
     one : (s : ℕ) → IsSensor s → SensorMatches s (freshSensor s) (freshSetup s)
     one s k = record { setup-is = refl; valid-sensor = fresh-sensor-valid s (k .0) (k .1); fits = fresh-fits s }

@@ -1,5 +1,5 @@
 -- Demand 3: no list of calls parts the journal from the figures in force. Assumes nothing.
-use mathlib.Core.Path.{_≡_, refl, _∙_}
+use mathlib.Core.Path.{_≡_, refl}
 use mathlib.Core.Bool.{true, not}
 use mathlib.Core.List.{List, [], _∷_}
 use Prim.Native.Nat.{ℕ}
@@ -7,7 +7,7 @@ use lib.Dec.{eqb}
 use Rattle.journal.specs.Journal.{every}
 use Rattle.calls.specs.Calls.{freshOf, beginOf}
 use Rattle.agreement.specs.Model.{Model, modelStart}
-use Rattle.agreement.specs.Runs.{Call, State, run, numbers, start, modelRun}
+use Rattle.agreement.specs.Runs.{Call, State, run, numbers, modelRun}
 use Rattle.agreement.specs.Runs.Call.{Frame, Measure, PowerUp, Begin}
 use Rattle.agreement.specs.Accepted.{acceptedFrom}
 use Rattle.agreement.specs.Agreement.{Agreement}

@@ -5,16 +5,13 @@ use mathlib.Core.Bool.{Bool, true, false, _&&_, cond}
 use mathlib.Core.List.{List, [], _∷_, _++_}
 use Prim.Native.Nat.{ℕ, _-_, _<_}
 use native.Mathlib.Omega.{arith}
-use lib.Dec.{eqb, ltb}
-use lib.ListN.{length, getD, set}
+use lib.Dec.{eqb}
+use lib.ListN.{length, set}
 use borrow.Author.Tests.{eqb-true, eq-eqb, ne-eqb, ltb-true}
-use Rattle.modbus.specs.Request.{maskedOf}
-use Rattle.calibration.specs.Methods.{pointsOf}
 use Rattle.entries.specs.declared.Entry.{Entry}
 use Rattle.fields.specs.declared.Field.{Field}
 use Rattle.fields.proofs.Writable.{writable, by-offset}
 use Rattle.journal.specs.Journal.{Journal, IsSensor, openingOf, on, latest, add}
-use Rattle.journal.specs.Words.{capacityOf}
 use Rattle.journal.specs.Stores.{appendOf}
 use Rattle.journal.proofs.Holds.{Holds, holds-used, append-holds}
 use Rattle.journal.proofs.Replay.{latest-snoc}
@@ -23,21 +20,20 @@ use Rattle.sensors.specs.declared.Setup.{Setup}
 use Rattle.sensors.specs.declared.Sample.{Sample}
 use Rattle.sensors.specs.declared.Sensor.{Sensor}
 use Rattle.sensors.proofs.Setups.{SetupFits}
-use Rattle.registers.specs.Registers.{headRegister, modeOf, coefficientRegister, pointRegister, parameterRegister, sensorRegister}
-use Rattle.writes.specs.Writes.{methodSet, codeOf, writeOf}
+use Rattle.registers.specs.Registers.{parameterRegister, sensorRegister}
+use Rattle.writes.specs.Writes.{codeOf, writeOf}
 use Rattle.writes.specs.declared.Written.{Written}
 use Rattle.writes.specs.declared.Written.the-variants.{Refused, Stored, Updated}
 use Rattle.writes.proofs.Outcomes.{Code, read-only, mode-off, not-listed, not-accepted, journal-full}
 use Rattle.writes.proofs.Laws.{write-valid, write-fits, stored-active, codes}
 use Rattle.writes.proofs.Updates.{Update, update-facts, update-valid, update-fits, update-entry-valid, update-entry-fits, update-method, update-stores-none}
-use Rattle.state.specs.Sonde.{sonde, sensorAt, setupAt, withSensor, withSetup, countedGood, countedException}
+use Rattle.state.specs.Sonde.{sonde, sensorAt, setupAt, withSetup, countedGood, countedException}
 use Rattle.state.specs.declared.Counters.{Counters}
-use Rattle.state.specs.declared.Sonde.{Sonde}
 use Rattle.calls.specs.Frame.{Outcome, refusal, confirmation, spareIn, writeAt, carried, maskedWord}
 use Rattle.agreement.specs.Model.{Model, model, setupOf, spareIn as bookSpare, writeIn, maskedIn, stored, kept}
 use Rattle.agreement.specs.Runs.{State, state}
 use Rattle.agreement.specs.Accepted.{calibrated}
-use Rattle.agreement.proofs.Sondes.{Matches, setup-replaced, setup-same, setup-valid, setup-fits, counted, with-setup}
+use Rattle.agreement.proofs.Sondes.{setup-replaced, setup-same, setup-valid, setup-fits, counted, with-setup}
 use Rattle.agreement.proofs.Invariant.{Invariant}
 
 -- ---- the same write
@@ -50,14 +46,17 @@ unmeasured s x y =
     refl refl refl refl refl refl refl refl refl refl refl refl refl refl refl refl refl
 
 module _ {x : State} {b : Model} (h : Invariant x b) where
+  -- an entry is spare in the volume where it is in the book
   spare-same : spareIn (x .volume) ≡ bookSpare (b .journal)
   unfolding spareIn bookSpare
   spare-same = rw (holds-used (x .volume) (b .journal) (h .holds), h .holds .capacity-is)
 
+  -- the write of a field
   pub write-same : (clock s : ℕ) (f : Field) (high low : ℕ) → IsSensor s → writeIn b clock s f high low ≡ writeAt (x .sonde) (x .volume) clock s f high low
   unfolding writeAt writeIn
   write-same clock s f high low k = rw (setup-same (h .matches) s k, spare-same)
 
+  -- what a mask makes of the old word
   pub masked-same : (s : ℕ) (f : Field) (a o : ℕ) → IsSensor s → writable (f .offset) ≡ true → maskedIn b s f a o ≡ maskedWord (x .sonde) s f a o
   unfolding maskedIn maskedWord
   masked-same s f a o k w = rw (unmeasured s (sensorAt (x .sonde) s) freshSample (f .offset) w, h .matches .each s k .setup-is)
@@ -70,12 +69,13 @@ pub record Answered (x : State) (b : Model) (o : Outcome) (c : Model) (k : ℕ) 
   pub invariant : Invariant (state (o .sonde) (o .volume)) c
   pub entries : c .journal .entries ≡ cond (eqb k 0) (b .journal .entries) (b .journal .entries ++ (calibrated (x .sonde) (o .sonde) k ∷ []))
 
-code-some : {code : ℕ} → Code code → eqb code 0 ≡ false
-code-some read-only = refl
-code-some mode-off = refl
-code-some not-listed = refl
-code-some not-accepted = refl
-code-some journal-full = refl
+-- a code that refuses isn't 0
+code-nonzero : {code : ℕ} → Code code → eqb code 0 ≡ false
+code-nonzero read-only = refl
+code-nonzero mode-off = refl
+code-nonzero not-listed = refl
+code-nonzero not-accepted = refl
+code-nonzero journal-full = refl
 
 module _ {x : State} {b : Model} (h : Invariant x b) where
   -- the counters don't matter
@@ -83,9 +83,9 @@ module _ {x : State} {b : Model} (h : Invariant x b) where
   counted-keeps c = record { matches = counted (h .matches) c; holds = h .holds; followed = h .followed }
 
   -- a frame that is refused by code
-  pub refused-keeps : (body reply : List ℕ) (code : ℕ) → Invariant (state (refusal (x .sonde) body code .sonde) (x .volume)) b
+  pub refused-keeps : (body : List ℕ) (code : ℕ) → Invariant (state (refusal (x .sonde) body code .sonde) (x .volume)) b
   unfolding refusal countedException
-  refused-keeps body reply code = counted-keeps _
+  refused-keeps body code = counted-keeps _
 
   module _ (s : ℕ) (k : IsSensor s) where
     -- a setup stored in sensor s, and the journal that the volume then holds
@@ -150,7 +150,8 @@ module _ {x : State} {b : Model} (h : Invariant x b) where
           in-force t l true q = sym (u .journalled)
           in-force t l false q = h .followed t l
 
-          after : Invariant (state (confirmation (withSetup (x .sonde) s y) body .sonde) (appendOf (x .volume) n)) (model (b .address) (set (b .setups) (s - 1) y) (add (b .journal) n))
+          after : Invariant (state (confirmation (withSetup (x .sonde) s y) body .sonde) (appendOf (x .volume) n))
+              (model (b .address) (set (b .setups) (s - 1) y) (add (b .journal) n))
           after =
               stored-keeps body y (update-valid s old f high low clock spare y n (setup-valid (h .matches) s k) e)
               (update-fits s old f high low clock spare y n (setup-fits (h .matches) s k) e) (appendOf (x .volume) n) (add (b .journal) n)
@@ -164,10 +165,11 @@ module _ {x : State} {b : Model} (h : Invariant x b) where
           entry-is : n ≡ calibrated (x .sonde) (confirmation (withSetup (x .sonde) s y) body .sonde) s
           entry-is = rw (new-is, u .sensor-is, update-method s old f high low clock spare y n (setup-valid (h .matches) s k) e, ← (u .journalled), u .points-are)
 
+      -- whatever the write comes to
       pub written-keeps : (w : Written) → writeAt (x .sonde) (x .volume) clock s f high low ≡ w
           → Answered x b (carried (x .sonde) body reply (x .volume) s w) (kept b s w) (cond (eqb (codeOf w) 0) (cond (eqb (f .offset) 5 && eqb high 0xE001) s 0) 0)
       unfolding writeAt
       written-keeps (Refused code) e =
-          rw (code-some (codes s old f high low clock spare code e)) (record { no-number = refl; invariant = refused-keeps body reply code; entries = refl })
+          rw (code-nonzero (codes s old f high low clock spare code e)) (record { no-number = refl; invariant = refused-keeps body code; entries = refl })
       written-keeps (Stored y) e = store-keeps y e
       written-keeps (Updated y n) e = update-keeps y n e
