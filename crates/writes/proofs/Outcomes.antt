@@ -9,7 +9,7 @@ use borrow.Author.Tests.{eqb-true, leb-true}
 use Rattle.floats.specs.Floats.{pattern, floatOf}
 use Rattle.floats.specs.declared.FloatOf.{FloatOf}
 use Rattle.floats.specs.declared.FloatOf.the-variants.{Finite, NotFinite}
-use Rattle.floats.proofs.Bools.{both}
+use Rattle.floats.proofs.Bools.{both, choose}
 use Rattle.calibration.specs.Methods.{judgedOf}
 use Rattle.calibration.specs.declared.coefficients.Coefficients.{Coefficients}
 use Rattle.calibration.specs.declared.methods.Verdict.{Verdict}
@@ -52,11 +52,6 @@ pub data Outcome (sensor : ℕ) (s : Setup) (o high low clock : ℕ) (spare : Bo
   stored : {t : Setup} → Change sensor s o high low t → Outcome sensor s o high low clock spare (Stored t)
   update : (c : Coefficients) → o ≡ 5 → high ≡ 0xE001 → s .calibrating ≡ true → spare ≡ true → judgedOf sensor (methodSet s) ≡ Accepted c
       → Outcome sensor s o high low clock spare (Updated (calibratedAt s c clock) (entryOf sensor (methodSet s) c clock))
-
--- a choice, by both of its arms
-pub choose : (P : Written → Type 0) (b : Bool) (x y : Written) → (b ≡ true → P x) → (b ≡ false → P y) → P (cond b x y)
-choose P true x y f g = f refl
-choose P false x y f g = g refl
 
 module _ (sensor : ℕ) (s : Setup) (o high low clock : ℕ) (spare : Bool) where
   abbrev P : Written → Type 0

@@ -5,7 +5,7 @@ use mathlib.Core.Bool.{Bool, true, false, _&&_, not, cond}
 use Prim.Native.Nat.{ℕ}
 use native.Mathlib.Omega.{arith}
 use lib.Dec.{eqb}
-use Rattle.floats.proofs.Bools.{no}
+use Rattle.floats.proofs.Bools.{no, choose}
 use Rattle.calibration.specs.Coefficients.{allFinite, coefficientsOf, inLimits}
 use Rattle.calibration.specs.Methods.{pointsOf, judgedOf}
 use Rattle.calibration.specs.declared.coefficients.Coefficients.{Coefficients}
@@ -23,7 +23,7 @@ use Rattle.sensors.proofs.Setups.{SetupFits, valid-setup-parts}
 use Rattle.sensors.proofs.Changed.{calibrated-valid, calibrated-fits}
 use Rattle.writes.specs.Writes.{methodSet, judgedUpdate, updated, commanded, fieldWritten, writeOf}
 use Rattle.writes.specs.declared.Written.{Written}
-use Rattle.writes.specs.declared.Written.the-variants.{Refused, Updated}
+use Rattle.writes.specs.declared.Written.the-variants.{Refused, Stored, Updated}
 use Rattle.writes.proofs.Outcomes.{Outcome, refused, stored, update, write-outcome}
 
 -- ---- what an update says
@@ -121,6 +121,27 @@ pub update-accepted : (sensor : ℕ) (s : Setup) (f : Field) (low clock : ℕ) (
     → writeOf sensor s f 0xE001 low clock true ≡ Updated (calibratedAt s c clock) (entryOf sensor (methodSet s) c clock)
 unfolding writeOf fieldWritten commanded updated
 update-accepted sensor s f low clock c o a m j = rw (a, o, m, j)
+
+-- the command 0xE001 is an update or is refused: no value is stored
+pub update-stores-none : (sensor : ℕ) (s : Setup) (f : Field) (low clock : ℕ) (spare : Bool) (t : Setup) → f .offset ≡ 5
+    → writeOf sensor s f 0xE001 low clock spare ≡ Stored t → ⊥
+unfolding writeOf fieldWritten commanded updated
+update-stores-none sensor s f low clock spare t o =
+    rw o (choose P (eqb (f .access) 0) _ _ (λ e. no-code)
+    (λ e. choose P (eqb (f .access) 2 && not (s .calibrating)) _ _ (λ e. no-code)
+    (λ e. choose P (s .calibrating) _ _ (λ e. judged (judgedOf sensor (methodSet s))) (λ e. no-code))))
+  where
+    P : Written → Type 0
+    P w = w ≡ Stored t → ⊥
+
+    no-code : {code : ℕ} → P (Refused code)
+    no-code w = let z : _≡_ {A = ℕ} 0 1 = cc in omega arith
+
+    judged : (v : Verdict) → P (judgedUpdate sensor s clock spare v)
+    judged (Accepted c) = choose P spare _ _ (λ e w. let z : _≡_ {A = ℕ} 0 1 = cc in omega arith) (λ e. no-code)
+    judged (OutsideLimits c) = no-code
+    judged NotFinite = no-code
+    judged Undefined = no-code
 
 -- ---- the journal's room
 

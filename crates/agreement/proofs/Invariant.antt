@@ -1,0 +1,84 @@
+-- What holds between calls of a sonde, its volume and the control book, and what follows from it: number 4 isn't due, and the books agree.
+-- Assumes nothing.
+use mathlib.Core.Path.{_≡_, refl, sym, ap, _∙_}
+use mathlib.Core.Bool.{true}
+use Prim.Native.Nat.{ℕ}
+use native.Mathlib.Nat.{zero-add}
+use Rattle.calibration.specs.Coefficients.{sameCalibration}
+use Rattle.calibration.proofs.Bits.{same-calibration-refl}
+use Rattle.journal.specs.Journal.{IsSensor, openingOf, indicesFrom, latest}
+use Rattle.journal.specs.Valid.{chainOf, valid}
+use Rattle.journal.specs.Replay.{replayOf}
+use Rattle.journal.proofs.Tests.{sensor-cases, four-intro}
+use Rattle.journal.proofs.Chains.{indices-ascend, indices-member, chain-ends}
+use Rattle.journal.proofs.Holds.{Holds, holds-valid, holds-used, holds-chain, holds-replay}
+use Rattle.sensors.specs.declared.Setup.{Setup}
+use Rattle.sensors.proofs.Setups.{valid-setup-parts}
+use Rattle.state.specs.Sonde.{setupAt}
+use Rattle.state.specs.declared.Sonde.{Sonde}
+use Rattle.calls.specs.Agrees.{openings, replayAgrees, replaysAgree, agrees}
+use Rattle.calls.specs.Calls.{auditOf}
+use Rattle.agreement.specs.Model.{Model, setupOf}
+use Rattle.agreement.specs.Runs.{State}
+use Rattle.agreement.specs.Agreement.{Agree}
+use Rattle.agreement.proofs.Sondes.{Matches, sonde-valid, setup-same, setup-valid}
+
+-- the sonde matches the book, the volume holds the book's journal, and what the journal comes to is in force
+pub record Invariant (x : State) (b : Model) : Type 0 where
+  pub matches : Matches (x .sonde) (b .address) (b .setups)
+  pub holds : Holds (x .volume) (b .journal)
+  pub followed : (s : ℕ) → IsSensor s → latest s (openingOf (b .journal .opening) s) (b .journal .entries) ≡ setupOf (b .setups) s .active
+
+-- the opening that a begin writes is the calibration in force
+pub opening-at : (d : Sonde) (s : ℕ) → IsSensor s → openingOf (openings d) s ≡ setupAt d s .active
+unfolding openings
+opening-at d = sensor-cases (λ s. openingOf (openings d) s ≡ setupAt d s .active) refl refl refl refl
+
+module _ {x : State} {b : Model} (h : Invariant x b) where
+  -- ---- number 4 isn't due
+
+  -- the volume is valid
+  pub volume-valid : valid (x .volume) ≡ true
+  volume-valid = holds-valid (x .volume) (b .journal) (h .holds)
+
+  -- its replay is what is in force
+  pub replay-same : (s : ℕ) → IsSensor s → replayOf (x .volume) s ≡ setupAt (x .sonde) s .active
+  replay-same s k =
+      holds-replay (x .volume) (b .journal) (h .holds) s k ∙ h .followed s k ∙ ap (λ (y : Setup). y .active) (sym (setup-same (h .matches) s k))
+
+  -- so the sonde agrees with it
+  pub agrees-with : agrees (x .sonde) (x .volume) ≡ true
+  unfolding agrees replaysAgree replayAgrees
+  agrees-with =
+      rw (
+        sonde-valid (h .matches),
+        volume-valid,
+        four-intro (λ s. sameCalibration (openingOf (openings (x .sonde)) s) (replayOf (x .volume) s))
+            (λ s k. rw (opening-at (x .sonde) s k, replay-same s k) (same-calibration-refl (setupAt (x .sonde) s .active))),
+      )
+
+  -- ---- the books agree
+
+  chain-is : (s : ℕ) → IsSensor s → chainOf (x .volume) s ≡ indicesFrom 0 s (b .journal .entries)
+  chain-is = holds-chain (x .volume) (b .journal) (h .holds)
+
+  -- all that demand 3 asks of the two after the last call
+  pub agree : Agree x b
+  unfolding auditOf
+  agree =
+      record {
+        free = h .holds .free;
+        words = h .holds .words;
+        chains = chain-is;
+        once = λ s k. rw (chain-is s k) (indices-ascend 0 s (b .journal .entries));
+        own = λ i s e l k. rw (chain-is s k) (rw zero-add at (indices-member 0 i s (b .journal .entries) e l));
+        ends = λ s f k l. rw (chain-is s k, h .holds .words) (chain-ends (b .journal) (h .holds .free) s f k l);
+        followed = h .followed;
+        replayed = replay-same;
+        bits = λ s k. rw (replay-same s k) (same-calibration-refl (setupAt (x .sonde) s .active));
+        finite = λ s k. valid-setup-parts s (setupAt (x .sonde) s) (setup-valid (h .matches) s k) .active-finite;
+        limits = λ s k. valid-setup-parts s (setupAt (x .sonde) s) (setup-valid (h .matches) s k) .in-limits;
+        address = h .matches .address-is;
+        setups = setup-same (h .matches);
+        audited = rw (agrees-with, holds-used (x .volume) (b .journal) (h .holds));
+      }

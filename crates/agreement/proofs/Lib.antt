@@ -1,0 +1,6 @@
+pub mod Sondes
+pub mod Invariant
+pub mod Calls
+pub mod Writes
+pub mod Frames
+pub mod Theorem

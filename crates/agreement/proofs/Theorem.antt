@@ -1,0 +1,44 @@
+-- Demand 3: no list of calls parts the journal from the figures in force. Assumes nothing.
+use mathlib.Core.Path.{_≡_, refl}
+use mathlib.Core.Bool.{true, not}
+use mathlib.Core.List.{List, [], _∷_}
+use Prim.Native.Nat.{ℕ}
+use lib.Dec.{eqb}
+use Rattle.journal.specs.Journal.{every}
+use Rattle.calls.specs.Calls.{freshOf, beginOf}
+use Rattle.agreement.specs.Model.{Model, modelStart}
+use Rattle.agreement.specs.Runs.{Call, State, run, numbers, modelRun}
+use Rattle.agreement.specs.Runs.Call.{Frame, Measure, PowerUp, Begin}
+use Rattle.agreement.specs.Accepted.{acceptedFrom}
+use Rattle.agreement.specs.Agreement.{Agreement}
+use Rattle.agreement.proofs.Invariant.{Invariant, agree}
+use Rattle.agreement.proofs.Calls.{Keeps, measure-keeps, power-up-keeps, begin-keeps, start-invariant}
+use Rattle.agreement.proofs.Frames.{frame-keeps}
+
+-- each call
+keeps : {x : State} {b : Model} → Invariant x b → (c : Call) → Keeps x b c
+keeps h (Frame frame reply clock) = frame-keeps h frame reply clock
+keeps h (Measure s present first second) = measure-keeps h s present first second
+keeps h (PowerUp address) = power-up-keeps h address
+keeps h (Begin w) = begin-keeps h w
+
+-- and a list of them
+run-invariant : {x : State} {b : Model} → Invariant x b → (calls : List Call) → Invariant (run x calls) (modelRun b calls)
+run-invariant h [] = h
+run-invariant h (c ∷ cs) = run-invariant (keeps h c .invariant) cs
+
+run-never-four : {x : State} {b : Model} → Invariant x b → (calls : List Call) → every (λ n. not (eqb n 4)) (numbers x calls) ≡ true
+run-never-four h [] = refl
+run-never-four h (c ∷ cs) = rw (keeps h c .never-four) (run-never-four (keeps h c .invariant) cs)
+
+run-accepted : {x : State} {b : Model} → Invariant x b → (calls : List Call) → modelRun b calls .journal .entries ≡ acceptedFrom (b .journal .entries) x calls
+run-accepted h [] = refl
+run-accepted h (c ∷ cs) = rw (← (keeps h c .entries)) (run-accepted (keeps h c .invariant) cs)
+
+-- after a fresh and a begin that aren't refused, whatever the calls and their arguments
+pub agreement : (address : ℕ) (first : List ℕ) → freshOf address .number ≡ 0 → beginOf (freshOf address .sonde) first .number ≡ 0
+    → (calls : List Call) → Agreement address first calls
+unfolding modelStart
+agreement address first f g calls =
+    let h = start-invariant address first f g in
+    record { never-four = run-never-four h calls; agree = agree (run-invariant h calls); accepted = run-accepted h calls }
