@@ -1,3 +1,6 @@
+-- `frames::answer` meets its contract. Assumes nothing.
+use mathlib.Core.Path.{sym, _∙_}
+use Rattle.plans.proofs.Plans.{facts-of}
 use Rattle.state.specs.Sonde.{countedGood, withSetup}
 use Rattle.rtu.specs.Frame.{overlay}
 use Rattle.plans.specs.Plans.{planOf}
@@ -54,7 +57,11 @@ enum-known-start c = search needs
 
 -- src/lib.rt:197:43
 read-requires : tie.Need-read-requires
-read-requires c κs = (search needs, ?, ?)
+read-requires c κs =
+    let j = c .before .before .before .before .before in
+    let a = j .before .before .before .before .args in
+    let f = facts-of (a .sonde .address) (a .body .now) (sym (j .judge .ensures) ∙ c .before .before .before .start .given .1) in
+    (search needs, f .most, f .ends)
 
 -- src/lib.rt:199:13
 enum-known-sensor : tie.Need-enum-known-sensor
@@ -62,7 +69,11 @@ enum-known-sensor c = search needs
 
 -- src/lib.rt:203:14
 write-requires : tie.Need-write-requires
-write-requires c κs = (search needs, ?, search needs, ?, search needs)
+write-requires c κs =
+    let j = c .before .before .before .before .before in
+    let a = j .before .before .before .before .args in
+    let f = facts-of (a .sonde .address) (a .body .now) (sym (j .judge .ensures) ∙ c .before .before .before .sensor .given .1) in
+    (search needs, f .long, search needs, f .located .is-sensor, search needs)
 
 -- src/lib.rt:205:13
 enum-known-sensor-2 : tie.Need-enum-known-sensor-2
@@ -70,11 +81,19 @@ enum-known-sensor-2 c = search needs
 
 -- src/lib.rt:210:17
 masked-requires : tie.Need-masked-requires
-masked-requires c κs = ?
+masked-requires c κs =
+    let j = c .before .before .before in
+    let a = j .before .before .before .before .args in
+    let f = facts-of (a .sonde .address) (a .body .now) (sym (j .judge .ensures) ∙ c .before .sensor2 .given .1) in
+    f .located .is-sensor
 
 -- src/lib.rt:211:13
 write-requires-2 : tie.Need-write-requires-2
-write-requires-2 c κs = (search needs, ?, search needs, ?, search needs)
+write-requires-2 c κs =
+    let j = c .before .before .before .before .before .before in
+    let a = j .before .before .before .before .args in
+    let f = facts-of (a .sonde .address) (a .body .now) (sym (j .judge .ensures) ∙ c .before .before .before .before .sensor2 .given .1) in
+    (search needs, f .long, search needs, f .located .is-sensor, search needs)
 
 -- src/lib.rt:189:1
 returns : tie.Need-returns

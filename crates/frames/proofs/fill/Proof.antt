@@ -1,3 +1,13 @@
+-- `frames::fill` meets its contract: after i turns the first i words are the first i registers. Assumes nothing.
+use mathlib.Core.Path.{_≡_, refl, sym, _∙_}
+use Prim.Native.Nat.{_≤_, _<_, _-_}
+use native.Mathlib.Numerals.{add-one}
+use native.Mathlib.Omega.{arith}
+use lib.ListN.{length, take}
+use lib.Seq.{take-all, take-suc-set}
+use borrow.Author.Needs.{needs}
+use Rattle.calls.specs.Frame.{registersFrom}
+use Rattle.frames.proofs.Registers.{registers-more}
 use Rattle.frames.proofs.fill.Statement.{statement}
 use Rattle.frames.proofs.fill.Tie as tie
 use Rattle.frames.proofs.fill.Reads as reads
@@ -5,54 +15,55 @@ use Rattle.frames.proofs.fill.Lts as lts
 use Rattle.frames.proofs.register.Reads as register-reads
 
 abbrev Inv-loop : tie.InvT-loop
-Inv-loop words₀ sonde device start i₀ i-end words i = ?
+Inv-loop words₀ sonde device start i₀ i-end words i =
+    (i-end ≡ length words₀) × (i ≤ length words₀) × (length words ≡ length words₀) × (take i words ≡ registersFrom sonde device start i)
 
 abbrev μ-loop : tie.MeasureT-loop
-μ-loop words₀ sonde device start i₀ i-end words i = ?
+μ-loop words₀ sonde device start i₀ i-end words i = length words₀ - i
 
--- src/lib.rt:117:5
 loop-holds : tie.Need-loop-holds Inv-loop μ-loop
-loop-holds c = ?
+loop-holds c = (refl, omega arith, refl, refl)
 
--- src/lib.rt:118:53
 cast-register : tie.Need-cast-register Inv-loop μ-loop
-cast-register c = ?
+cast-register c = search needs
 
--- src/lib.rt:118:44
 add-register : tie.Need-add-register Inv-loop μ-loop
-add-register c = ?
+add-register c = search needs
 
--- src/lib.rt:118:20
 register-requires : tie.Need-register-requires Inv-loop μ-loop
-register-requires c κs = ?
+register-requires c κs = search needs
 
--- src/lib.rt:118:9
 mul-words : tie.Need-mul-words Inv-loop μ-loop
-mul-words c = ?
+mul-words c = search needs
 
--- src/lib.rt:118:9
 slice-write-words : tie.Need-slice-write-words Inv-loop μ-loop
-slice-write-words c = ?
+slice-write-words c = search needs
 
--- src/lib.rt:117:9
 add-i : tie.Need-add-i Inv-loop μ-loop
-add-i c = ?
+add-i c = search needs
 
--- src/lib.rt:117:5
 loop-less : tie.Need-loop-less Inv-loop μ-loop
-loop-less c = ?
+loop-less c = search needs
 
--- src/lib.rt:117:5
 loop-again : tie.Need-loop-again Inv-loop μ-loop
-loop-again c = ?
+loop-again c =
+    let l = c .before .before in
+    let a = l .before .before .args in
+    let i = l .loop .i in
+    let h : i < length (l .loop .words) = omega arith in (
+      search needs,
+      search needs,
+      search needs,
+      rw (add-one, take-suc-set (l .loop .words) i (c .register .result) h, l .loop .inv .3, c .register .ensures, registers-more (a .sonde) (a .device) (a .start) i),
+    )
 
--- src/lib.rt:113:1
 same-length : tie.Need-same-length Inv-loop μ-loop
-same-length c = ?
+same-length c = search needs
 
--- src/lib.rt:113:1
 returns : tie.Need-returns Inv-loop μ-loop
-returns c = ?
+returns c =
+    let i : c .before .loop .i ≡ length (c .before .before .before .args .words .now) = omega arith in
+    rw (← i) (sym (take-all (c .before .loop .i) (c .before .loop .words) (omega arith)) ∙ c .before .loop .inv .3)
 
 pub fill-spec : {M : Type 1} → statement M
 fill-spec =

@@ -1,3 +1,10 @@
+-- `frames::frame` meets its contract. Assumes nothing.
+use mathlib.Core.Path.{sym, _∙_}
+use native.Mathlib.Omega.{arith}
+use Rattle.rtu.specs.Bytes.{Bytes}
+use Rattle.rtu.specs.Frame.{overlay}
+use Rattle.rtu.proofs.RoundTrip.{good-is-framed, body-length}
+use Rattle.calls.proofs.Parts.{agrees-parts}
 use borrow.Author.Tests.{le-ltb, lt-ltb, not-false, not-true}
 use Rattle.calls.specs.Frame.{frameOf, judged}
 use borrow.Author.Needs.{needs}
@@ -48,7 +55,8 @@ same-length-2 c = search needs
 
 -- src/lib.rt:241:9
 returns-3 : tie.Need-returns-3
-returns-3 c = ?
+unfolding frameOf judged overlay
+returns-3 c = simp (le-ltb _ _ (c .before .before .before .before .before .before .before .if1 .left), ← c .before .before .before .before .before .agrees .ensures, not-false (c .before .before .before .before .before .agrees .result) (c .before .before .before .before .if2 .left), ← c .before .before .before .is-good .ensures, not-true (c .before .before .before .is-good .result) (c .before .before .if3 .taken), ← c .before .count-bad .ensures, c .silent .ensures)
 
 -- src/lib.rt:243:19
 body-requires : tie.Need-body-requires
@@ -56,7 +64,16 @@ body-requires c κs = search needs
 
 -- src/lib.rt:243:5
 answer-requires : tie.Need-answer-requires
-answer-requires c κs = (search needs, ?, ?)
+answer-requires c κs =
+    let b = c .before .before in
+    let i = b .before .before in
+    let g = i .before .before in
+    let a = g .before .before .before .before .before .before .args in
+    let s = a .frame .now in
+    let bytes : Bytes s = record { below = λ i. omega (arith, g .before .before .before .before .before .shared-slice-known .given i) } in
+    let f = good-is-framed s bytes (sym (i .is-good .ensures) ∙ not-false (i .is-good .result) (b .before .if3 .left)) in
+    let v = agrees-parts (a .sonde) (a .volume .now) (sym (g .agrees .ensures) ∙ not-false (g .agrees .result) (i .before .if2 .left)) in
+    (search needs, rw (b .body .ensures, body-length s) (omega arith), v .volume-valid)
 
 -- src/lib.rt:217:1
 same-length-3 : tie.Need-same-length-3

@@ -1,8 +1,14 @@
-use native.Mathlib.Omega.{arith}
+-- `frames::write` meets its contract. Assumes nothing.
+use mathlib.Core.Path.{sym, _∙_}
+use lib.ListN.{length, getD}
+use borrow.Author.Tests.{ltb-true}
+use Rattle.journal.specs.Words.{capacityOf}
+use Rattle.journal.proofs.Facts.{valid-capacity}
+use Rattle.writes.proofs.Updates.{update-facts}
 use Rattle.state.specs.Sonde.{withSetup}
 use Rattle.rtu.specs.Frame.{overlay}
 use Rattle.journal.specs.Stores.{appendOf}
-use Rattle.calls.specs.Frame.{confirmation, refusal, writeAt}
+use Rattle.calls.specs.Frame.{confirmation, refusal, spareIn, writeAt}
 use borrow.Author.Needs.{needs}
 use Rattle.frames.proofs.write.Statement.{statement}
 use Rattle.frames.proofs.write.Tie as tie
@@ -46,7 +52,9 @@ with-setup-requires c κs = search needs
 
 -- src/lib.rt:170:31
 confirm-requires : tie.Need-confirm-requires
-confirm-requires c κs = omega (arith, c .before .before .before .before .before .before .before .before .before .before .before .before .pre .0, c .before .before .before .before .before .before .before .before .before .before .before .before .pre .1, c .before .before .before .before .before .before .before .before .before .before .before .before .pre .2, c .before .before .before .before .before .before .before .before .before .before .before .shared-slice-known .given (c .before .before .before .before .before .before .before .before .before .before .before .before .args .clock), c .before .before .before .before .before .before .before .before .before .before .before .shared-slice-known .given (c .before .before .before .before .before .before .before .before .before .before .before .before .args .sensor), c .before .before .before .before .before .before .before .before .before .before .before .shared-slice-known .given (c .before .before .before .before .before .before .before .before .before .before .before .before .args .high), c .before .before .before .before .before .before .before .before .before .before .slice-known .given (c .before .before .before .before .before .before .before .before .before .before .before .before .args .clock), c .before .before .before .before .before .before .before .before .before .before .slice-known .given (c .before .before .before .before .before .before .before .before .before .before .before .before .args .sensor), c .before .before .before .before .before .before .before .before .before .before .slice-known .given (c .before .before .before .before .before .before .before .before .before .before .before .before .args .high), c .before .before .before .before .before .before .before .before .before .slice-known2 .given (c .before .before .before .before .before .before .before .before .before .before .before .before .args .clock), c .before .before .before .before .before .before .before .before .before .slice-known2 .given (c .before .before .before .before .before .before .before .before .before .before .before .before .args .sensor), c .before .before .before .before .before .before .before .before .before .slice-known2 .given (c .before .before .before .before .before .before .before .before .before .before .before .before .args .high))
+confirm-requires c κs =
+    let p = c .before .before .before .before .before .before .before .before .before .before .before .before .pre in
+    (p .0, p .1, p .2)
 
 -- src/lib.rt:171:26
 enum-known-s-2 : tie.Need-enum-known-s-2
@@ -54,15 +62,27 @@ enum-known-s-2 c = search needs
 
 -- src/lib.rt:172:13
 append-requires : tie.Need-append-requires
-append-requires c κs = (?, search needs, ?)
+unfolding spareIn
+append-requires c κs =
+    let x = c .before .before .before .before in
+    let y = x .before in
+    let z = y .before .before in
+    let p = z .before .before .before .before in
+    let a = p .args in
+    let g = c .before .before .s2 .given in
+    let u = update-facts (a .sensor) (z .setup .result) (a .field) (a .high) (a .low) (a .clock) (y .spare .result) (g .0 .0) (g .0 .1 .0) (sym (x .write .ensures) ∙ g .1) in
+    let r = ltb-true (getD (a .volume .now) 2 0) (capacityOf (length (a .volume .now))) (sym (y .spare .ensures) ∙ u .has-room) in
+    (rw (u .sensor-is) (p .pre .3), search needs, rw (valid-capacity (a .volume .now) (p .pre .4)) r)
 
 -- src/lib.rt:173:21
 with-setup-requires-2 : tie.Need-with-setup-requires-2
-with-setup-requires-2 c κs = ?
+with-setup-requires-2 c κs = c .before .before .before .before .before .before .before .before .before .before .before .before .before .before .pre .3
 
 -- src/lib.rt:173:13
 confirm-requires-2 : tie.Need-confirm-requires-2
-confirm-requires-2 c κs = omega (arith, c .before .before .before .before .before .before .before .before .before .before .before .before .before .before .before .before .pre .0, c .before .before .before .before .before .before .before .before .before .before .before .before .before .before .before .before .pre .1, c .before .before .before .before .before .before .before .before .before .before .before .before .before .before .before .before .pre .2, c .before .before .before .before .before .before .before .before .before .before .before .before .before .before .slice-known .given (c .before .before .before .before .before .before .before .before .before .before .before .before .before .before .before .before .args .clock), c .before .before .before .before .before .before .before .before .before .before .before .before .before .before .slice-known .given (c .before .before .before .before .before .before .before .before .before .before .before .before .before .before .before .before .args .sensor), c .before .before .before .before .before .before .before .before .before .before .before .before .before .before .slice-known .given (c .before .before .before .before .before .before .before .before .before .before .before .before .before .before .before .before .args .high), c .before .before .before .before .before .before .before .before .before .before .before .before .before .slice-known2 .given (c .before .before .before .before .before .before .before .before .before .before .before .before .before .before .before .before .args .clock), c .before .before .before .before .before .before .before .before .before .before .before .before .before .slice-known2 .given (c .before .before .before .before .before .before .before .before .before .before .before .before .before .before .before .before .args .sensor), c .before .before .before .before .before .before .before .before .before .before .before .before .before .slice-known2 .given (c .before .before .before .before .before .before .before .before .before .before .before .before .before .before .before .before .args .high), c .before .before .slice-known5 .given (c .before .before .before .before .before .before .before .before .before .before .before .before .before .before .before .before .args .clock), c .before .before .slice-known5 .given (c .before .before .before .before .before .before .before .before .before .before .before .before .before .before .before .before .args .sensor), c .before .before .slice-known5 .given (c .before .before .before .before .before .before .before .before .before .before .before .before .before .before .before .before .args .high))
+confirm-requires-2 c κs =
+    let p = c .before .before .before .before .before .before .before .before .before .before .before .before .before .before .before .before .pre in
+    (p .0, p .1, p .2)
 
 -- src/lib.rt:153:1
 same-length : tie.Need-same-length
