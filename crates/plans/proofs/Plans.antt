@@ -128,3 +128,7 @@ unfolding planOf
 plan-facts own body =
     let r = request-facts body (requestOf body) (in-range body) in
     choose body (eqb (addressOf body) 0) _ _ (choose body (eqb (functionOf body) 3) BroadcastRead _ tt r) (choose body (eqb (addressOf body) own) _ Foreign r tt)
+
+-- the facts of a plan that is known
+pub facts-of : (own : ℕ) (body : List ℕ) {p : Plan} → planOf own body ≡ p → Facts body p
+facts-of own body e = subst (Facts body) e (plan-facts own body)
