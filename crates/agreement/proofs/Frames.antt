@@ -14,11 +14,11 @@ use Rattle.plans.specs.declared.Plan.{Plan}
 use Rattle.plans.specs.declared.Plan.the-variants.{Foreign, BroadcastRead, Refused, Reading, Writing, Masking}
 use Rattle.plans.proofs.Plans.{Located, Facts, plan-facts}
 use Rattle.state.specs.Sonde.{countedGood, countedBad}
-use Rattle.calls.specs.Frame.{reading, writeAt, maskedWord, planned, judged, frameOf}
+use Rattle.calls.specs.Frame.{reading, writeAt, maskedWord, planned, judged, frameOf, codeBy}
 use Rattle.agreement.specs.Model.{Model, modelPlanned, modelFrame}
 use Rattle.agreement.specs.Runs.{State, frameIn, numberOf, after, modelAfter}
 use Rattle.agreement.specs.Runs.Call.{Frame}
-use Rattle.agreement.specs.Accepted.{updatedBy, codeBy, planIn, calibrates, noted}
+use Rattle.agreement.specs.Accepted.{updatedBy, planIn, calibrates, noted}
 use Rattle.agreement.proofs.Invariant.{Invariant, agrees-with}
 use Rattle.agreement.proofs.Calls.{Keeps}
 use Rattle.agreement.proofs.Writes.{Answered, counted-keeps, refused-keeps, write-same, masked-same, written-keeps}

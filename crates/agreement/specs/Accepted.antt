@@ -8,14 +8,14 @@ use lib.Dec.{eqb}
 use Rattle.rtu.specs.Frame.{isGood, bodyOf}
 use Rattle.calibration.specs.Methods.{pointsOf}
 use Rattle.entries.specs.declared.Entry.{Entry}
-use Rattle.writes.specs.Writes.{methodSet, codeOf}
+use Rattle.writes.specs.Writes.{methodSet}
 use Rattle.plans.specs.Plans.{planOf}
 use Rattle.plans.specs.declared.Plan.{Plan}
 use Rattle.plans.specs.declared.Plan.the-variants.{Foreign, BroadcastRead, Refused, Reading, Writing, Masking}
 use Rattle.state.specs.Sonde.{setupAt}
 use Rattle.state.specs.declared.Sonde.{Sonde}
 use Rattle.calls.specs.Calls.{beginOf}
-use Rattle.calls.specs.Frame.{writeAt, maskedWord}
+use Rattle.calls.specs.Frame.{maskedWord, codeBy}
 use Rattle.agreement.specs.Runs.{Call, State, frameIn, after}
 use Rattle.agreement.specs.Runs.Call.{Frame, Measure, PowerUp, Begin}
 
@@ -28,15 +28,6 @@ updatedBy d (Refused code) = 0
 updatedBy d (Reading start count) = 0
 updatedBy d (Writing s f high low) = cond (eqb (f .offset) 5 && eqb high 0xE001) s 0
 updatedBy d (Masking s f a b) = cond (eqb (f .offset) 5 && eqb (maskedWord d s f a b) 0xE001) s 0
-
--- the code that refuses what was asked; 0 for none
-abbrev pub codeBy : Sonde → List ℕ → ℕ → Plan → ℕ
-codeBy d w clock Foreign = 0
-codeBy d w clock BroadcastRead = 0
-codeBy d w clock (Refused code) = code
-codeBy d w clock (Reading start count) = 0
-codeBy d w clock (Writing s f high low) = codeOf (writeAt d w clock s f high low)
-codeBy d w clock (Masking s f a b) = codeOf (writeAt d w clock s f (maskedWord d s f a b) 0)
 
 abbrev pub planIn : State → List ℕ → Plan
 planIn x frame = planOf (x .sonde .address) (bodyOf frame)

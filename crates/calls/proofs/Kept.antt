@@ -1,21 +1,20 @@
--- What a call leaves alone. Demand 1: "A number changes nothing"; document 01: "Reply bytes past the reply's length stay", and "the free words
+-- What a call leaves alone. Demand 1: "A number changes nothing; a code changes only the message counters and writes its exception reply"; document 01: "Reply bytes past the reply's length stay", and "the free words
 -- past the entries in use keep what they held". Assumes nothing.
 use mathlib.Core.Path.{_≡_, refl}
-use mathlib.Core.Bool.{Bool, true, false, _&&_, cond}
+use mathlib.Core.Bool.{Bool, true, false, cond}
 use mathlib.Core.List.{List, []}
 use Prim.Native.Nat.{ℕ, suc, _≤_}
 use lib.Dec.{ltb}
 use lib.ListN.{length, getD, drop}
 use lib.Seq.{drop-append-seam}
 use Rattle.rtu.specs.Frame.{isGood, bodyOf, overlay}
-use Rattle.floats.proofs.Bools.{both}
 use Rattle.journal.specs.Layout.{place}
 use Rattle.journal.specs.Stores.{beginOf as beginWords, appendOf}
 use Rattle.journal.specs.Valid.{valid}
 use Rattle.journal.proofs.Facts.{valid-last}
 use Rattle.journal.proofs.Kept.{append-keeps, begin-keeps as begin-words}
 use Rattle.fields.specs.declared.Field.{Field}
-use Rattle.writes.specs.Writes.{writeOf}
+use Rattle.writes.specs.Writes.{codeOf}
 use Rattle.writes.specs.declared.Written.{Written}
 use Rattle.writes.specs.declared.Written.the-variants.{Refused as RefusedBy, Stored, Updated}
 use Rattle.writes.proofs.Updates.{update-facts}
@@ -25,9 +24,10 @@ use Rattle.plans.specs.declared.Plan.the-variants.{Foreign, BroadcastRead, Refu
 use Rattle.plans.proofs.Plans.{Facts, plan-facts}
 use Rattle.state.specs.Sonde.{setupAt, countedGood, countedBad, validSonde}
 use Rattle.state.specs.declared.Sonde.{Sonde}
-use Rattle.calls.specs.Agrees.{openings, replaysAgree, agrees}
+use Rattle.calls.specs.Agrees.{openings, agrees}
 use Rattle.calls.specs.Calls.{beginOf, begun}
-use Rattle.calls.specs.Frame.{Outcome, outcome, refusedBy, Answer, answer, left, refusal, confirmation, reading, spareIn, writeAt, carried, maskedWord, planned, judged, frameOf}
+use Rattle.calls.specs.Frame.{Outcome, outcome, refusedBy, Answer, answer, left, refusal, confirmation, reading, spareIn, writeAt, carried, maskedWord, codeBy, planned, judged, frameOf}
+use Rattle.calls.proofs.Parts.{agrees-parts}
 
 -- the words past the entries in use and one entry more
 abbrev pub freeWords : List ℕ → List ℕ → List ℕ
@@ -82,21 +82,38 @@ pub record FrameKeeps (d : Sonde) (reply w : List ℕ) (o : Outcome) : Type 0 wh
   pub free : freeWords w (o .volume) ≡ freeWords w w
 
 pub frame-keeps : (d : Sonde) (frame reply w : List ℕ) (clock : ℕ) → FrameKeeps d reply w (frameOf d frame reply w clock)
-unfolding frameOf agrees
-frame-keeps d frame reply w clock = go (ltb (length reply) 256) (validSonde d && valid w && replaysAgree d w) refl
+unfolding frameOf
+frame-keeps d frame reply w clock = go (ltb (length reply) 256) (agrees d w) refl
   where
     refused : (n : ℕ) → FrameKeeps d reply w (outcome (refusedBy n d) reply w)
     refused n = record { number = λ h. refl; past = refl; free = refl }
 
-    go : (short fit : Bool) → (validSonde d && valid w && replaysAgree d w) ≡ fit
+    go : (short fit : Bool) → agrees d w ≡ fit
         → FrameKeeps d reply w
         (cond short (outcome (refusedBy 3 d) reply w) (cond fit (judged d frame reply w clock) (outcome (refusedBy 4 d) reply w)))
     go true fit e = refused 3
     go false false e = refused 4
     go false true e =
-        let v = both (validSonde d) (valid w) (both (validSonde d && valid w) (replaysAgree d w) e .0) .1 in
-        let a = judged-answered d reply w clock v frame in
+        let a = judged-answered d reply w clock (agrees-parts d w e .volume-valid) frame in
         record { number = λ h. absurd (h (a .zero)); past = a .past; free = a .free }
+
+-- what is refused by a code has the refusal's answer, and the volume stays
+pub code-keeps : (d : Sonde) (body reply w : List ℕ) (clock : ℕ) (p : Plan) → (codeBy d w clock p ≡ 0 → ⊥)
+    → planned d body reply w clock p ≡ left (refusal d body (codeBy d w clock p)) reply w
+code-keeps d body reply w clock = go
+  where
+    of : (s : ℕ) (x : Written) → (codeOf x ≡ 0 → ⊥) → carried d body reply w s x ≡ left (refusal d body (codeOf x)) reply w
+    of s (RefusedBy code) h = refl
+    of s (Stored x) h = absurd (h refl)
+    of s (Updated x e) h = absurd (h refl)
+
+    go : (p : Plan) → (codeBy d w clock p ≡ 0 → ⊥) → planned d body reply w clock p ≡ left (refusal d body (codeBy d w clock p)) reply w
+    go Foreign h = absurd (h refl)
+    go BroadcastRead h = absurd (h refl)
+    go (Refused code) h = refl
+    go (Reading start count) h = absurd (h refl)
+    go (Writing s f high low) h = of s (writeAt d w clock s f high low) h
+    go (Masking s f a b) h = of s (writeAt d w clock s f (maskedWord d s f a b) 0) h
 
 -- a begin writes words 0..63 only, and none where it is refused
 pub begin-keeps : (d : Sonde) (w : List ℕ) → drop 64 (beginOf d w .volume) ≡ drop 64 w

@@ -14,7 +14,7 @@ use Rattle.journal.specs.Words.{capacityOf}
 use Rattle.journal.specs.Stores.{appendOf}
 use Rattle.registers.specs.Registers.{sensorRegister, deviceRegister}
 use Rattle.registers.specs.declared.Device.{Device}
-use Rattle.writes.specs.Writes.{writeOf}
+use Rattle.writes.specs.Writes.{writeOf, codeOf}
 use Rattle.writes.specs.declared.Written.{Written}
 use Rattle.writes.specs.declared.Written.the-variants.{Refused as RefusedBy, Stored, Updated}
 use Rattle.plans.specs.Plans.{planOf}
@@ -132,6 +132,15 @@ planned d body reply w clock (Refused code) = left (refusal d body code) reply w
 planned d body reply w clock (Reading start count) = left (reading d w clock start count) reply w
 planned d body reply w clock (Writing s f high low) = carried d body reply w s (writeAt d w clock s f high low)
 planned d body reply w clock (Masking s f a b) = carried d body reply w s (writeAt d w clock s f (maskedWord d s f a b) 0)
+
+-- the code that refuses what a body asks; 0 for none
+abbrev pub codeBy : Sonde → List ℕ → ℕ → Plan → ℕ
+codeBy d w clock Foreign = 0
+codeBy d w clock BroadcastRead = 0
+codeBy d w clock (Refused code) = code
+codeBy d w clock (Reading start count) = 0
+codeBy d w clock (Writing s f high low) = codeOf (writeAt d w clock s f high low)
+codeBy d w clock (Masking s f a b) = codeOf (writeAt d w clock s f (maskedWord d s f a b) 0)
 
 -- "A frame shorter than 4 or longer than 256 bytes, or with a wrong CRC-16 .., counts bad"
 unfoldable pub judged : Sonde → List ℕ → List ℕ → List ℕ → ℕ → Outcome
