@@ -1,10 +1,11 @@
--- What is known of a request: its words are words, and its count is one that Modbus allows. Assumes nothing.
+-- What is known of a request: its count is one that Modbus allows, a write has at least six bytes, and in a body of bytes its words are words.
+-- Assumes nothing.
 use mathlib.Core.Path.{_≡_, refl}
 use mathlib.Core.Bool.{Bool, true, false, cond}
 use mathlib.Core.List.{List}
 use Prim.Native.Nat.{ℕ, _+_, _*_, _≤_, _<_}
 use native.Mathlib.Omega.{arith}
-use borrow.Author.Tests.{ltb-false}
+use borrow.Author.Tests.{eqb-true, ltb-false}
 use lib.Dec.{ltb, eqb, lit<, lit≤}
 use lib.ListN.{length, getD}
 use Rattle.rtu.specs.Bytes.{Bytes, wordAt}
@@ -15,47 +16,49 @@ use Rattle.modbus.specs.declared.Request.the-variants.{Unsupported, Malf
 abbrev Word : ℕ → Type 0
 Word n = n < 65536
 
-pub record ReadInRange (start count : ℕ) : Type 0 where
-  pub start-word : Word start
+pub record ReadInRange (body : List ℕ) (start count : ℕ) : Type 0 where
+  pub start-word : Bytes body → Word start
   pub least : 1 ≤ count
   pub most : count ≤ 125
 
-pub record WriteInRange (start count first second : ℕ) : Type 0 where
-  pub start-word : Word start
+pub record WriteInRange (body : List ℕ) (start count first second : ℕ) : Type 0 where
+  pub long : 6 ≤ length body
+  pub start-word : Bytes body → Word start
   pub least : 1 ≤ count
   pub most : count ≤ 123
-  pub first-word : Word first
-  pub second-word : Word second
+  pub first-word : Bytes body → Word first
+  pub second-word : Bytes body → Word second
 
-pub record MaskInRange (register andMask orMask : ℕ) : Type 0 where
-  pub register-word : Word register
-  pub and-word : Word andMask
-  pub or-word : Word orMask
+pub record MaskInRange (body : List ℕ) (register andMask orMask : ℕ) : Type 0 where
+  pub long : 6 ≤ length body
+  pub register-word : Bytes body → Word register
+  pub and-word : Bytes body → Word andMask
+  pub or-word : Bytes body → Word orMask
 
-abbrev pub InRange : Request → Type 0
-InRange Unsupported = Unit {0}
-InRange Malformed = Unit {0}
-InRange (Read start count) = ReadInRange start count
-InRange (Write start count first second) = WriteInRange start count first second
-InRange (Mask register andMask orMask) = MaskInRange register andMask orMask
+abbrev pub InRange : List ℕ → Request → Type 0
+InRange body Unsupported = Unit {0}
+InRange body Malformed = Unit {0}
+InRange body (Read start count) = ReadInRange body start count
+InRange body (Write start count first second) = WriteInRange body start count first second
+InRange body (Mask register andMask orMask) = MaskInRange body register andMask orMask
 
-either : (b : Bool) (x y : Request) → (b ≡ true → InRange x) → (b ≡ false → InRange y) → InRange (cond b x y)
-either true x y f g = f refl
-either false x y f g = g refl
+module _ (s : List ℕ) where
+  either : (b : Bool) (x y : Request) → (b ≡ true → InRange s x) → (b ≡ false → InRange s y) → InRange s (cond b x y)
+  either true x y f g = f refl
+  either false x y f g = g refl
 
-module _ (s : List ℕ) (bytes : Bytes s) where
-  word : (i : ℕ) → Word (wordAt s i)
-  word i = omega (arith, bytes .below i, bytes .below (i + 1))
+  word : (i : ℕ) → Bytes s → Word (wordAt s i)
+  word i bytes = omega (arith, bytes .below i, bytes .below (i + 1))
 
   pick : (b : Bool) (m n : ℕ) → Word m → Word n → Word (cond b m n)
   pick true m n hm hn = hm
   pick false m n hm hn = hn
 
-  second : Word (secondOf s)
+  second : Bytes s → Word (secondOf s)
   unfolding secondOf
-  second = pick (ltb (length s) 11) 0 (wordAt s 9) (lit< tt) (word 9)
+  second bytes = pick (ltb (length s) 11) 0 (wordAt s 9) (lit< tt) (word 9 bytes)
 
-  read : InRange (readOf s)
+  read : InRange s (readOf s)
   unfolding readOf
   read =
       either (eqb (length s) 6) _ Malformed
@@ -66,13 +69,22 @@ module _ (s : List ℕ) (bytes : Bytes s) where
       (λ most. record { start-word = word 2; least = ltb-false (wordAt s 4) 1 least; most = ltb-false 125 (wordAt s 4) most })))
       (λ t. tt)
 
-  write-one : InRange (writeOneOf s)
+  write-one : InRange s (writeOneOf s)
   unfolding writeOneOf
   write-one =
       either (eqb (length s) 6) (Write (wordAt s 2) 1 (wordAt s 4) 0) Malformed
-      (λ six. record { start-word = word 2; least = lit≤ tt; most = lit≤ tt; first-word = word 4; second-word = lit< tt }) (λ t. tt)
+      (λ six.
+      record {
+        long = omega (arith, eqb-true (length s) 6 six);
+        start-word = word 2;
+        least = lit≤ tt;
+        most = lit≤ tt;
+        first-word = word 4;
+        second-word = λ bytes. lit< tt;
+      })
+      (λ t. tt)
 
-  write-many : InRange (writeManyOf s)
+  write-many : InRange s (writeManyOf s)
   unfolding writeManyOf
   write-many =
       let w = Write (wordAt s 2) (wordAt s 4) (wordAt s 7) (secondOf s) in
@@ -85,8 +97,9 @@ module _ (s : List ℕ) (bytes : Bytes s) where
       either (eqb (getD s 6 0) (2 * wordAt s 4)) _ Malformed
       (λ size.
       either (eqb (length s) (7 + getD s 6 0)) w Malformed
-      (λ long.
+      (λ exact.
       record {
+        long = omega (arith, ltb-false (length s) 9 nine);
         start-word = word 2;
         least = ltb-false (wordAt s 4) 1 least;
         most = ltb-false 123 (wordAt s 4) most;
@@ -96,14 +109,14 @@ module _ (s : List ℕ) (bytes : Bytes s) where
       (λ t. tt))
       (λ t. tt))))
 
-  write-mask : InRange (writeMaskOf s)
+  write-mask : InRange s (writeMaskOf s)
   unfolding writeMaskOf
   write-mask =
       either (eqb (length s) 8) (Mask (wordAt s 2) (wordAt s 4) (wordAt s 6)) Malformed
-      (λ eight. record { register-word = word 2; and-word = word 4; or-word = word 6 }) (λ t. tt)
+      (λ eight. record { long = omega (arith, eqb-true (length s) 8 eight); register-word = word 2; and-word = word 4; or-word = word 6 }) (λ t. tt)
 
-  -- whatever a body of bytes asks for is in range
-  pub in-range : InRange (requestOf s)
+  -- whatever a body asks for is in range
+  pub in-range : InRange s (requestOf s)
   unfolding requestOf
   in-range =
       either (eqb (functionOf s) 3) (readOf s) _ (λ t. read)

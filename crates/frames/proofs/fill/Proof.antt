@@ -1,0 +1,84 @@
+-- `frames::fill` meets its contract: after i turns the first i words are the first i registers. Assumes nothing.
+use mathlib.Core.Path.{_≡_, refl, sym, _∙_}
+use Prim.Native.Nat.{_≤_, _<_, _-_}
+use native.Mathlib.Numerals.{add-one}
+use native.Mathlib.Omega.{arith}
+use lib.ListN.{length, take}
+use lib.Seq.{take-all, take-suc-set}
+use borrow.Author.Needs.{needs}
+use Rattle.calls.specs.Frame.{registersFrom}
+use Rattle.frames.proofs.Registers.{registers-more}
+use Rattle.frames.proofs.fill.Statement.{statement}
+use Rattle.frames.proofs.fill.Tie as tie
+use Rattle.frames.proofs.fill.Reads as reads
+use Rattle.frames.proofs.fill.Lts as lts
+use Rattle.frames.proofs.register.Reads as register-reads
+
+abbrev Inv-loop : tie.InvT-loop
+Inv-loop words₀ sonde device start i₀ i-end words i =
+    (i-end ≡ length words₀) × (i ≤ length words₀) × (length words ≡ length words₀) × (take i words ≡ registersFrom sonde device start i)
+
+abbrev μ-loop : tie.MeasureT-loop
+μ-loop words₀ sonde device start i₀ i-end words i = length words₀ - i
+
+loop-holds : tie.Need-loop-holds Inv-loop μ-loop
+loop-holds c = (refl, omega arith, refl, refl)
+
+cast-register : tie.Need-cast-register Inv-loop μ-loop
+cast-register c = search needs
+
+add-register : tie.Need-add-register Inv-loop μ-loop
+add-register c = search needs
+
+register-requires : tie.Need-register-requires Inv-loop μ-loop
+register-requires c κs = search needs
+
+mul-words : tie.Need-mul-words Inv-loop μ-loop
+mul-words c = search needs
+
+slice-write-words : tie.Need-slice-write-words Inv-loop μ-loop
+slice-write-words c = search needs
+
+add-i : tie.Need-add-i Inv-loop μ-loop
+add-i c = search needs
+
+loop-less : tie.Need-loop-less Inv-loop μ-loop
+loop-less c = search needs
+
+loop-again : tie.Need-loop-again Inv-loop μ-loop
+loop-again c =
+    let l = c .before .before in
+    let a = l .before .before .args in
+    let i = l .loop .i in
+    let h : i < length (l .loop .words) = omega arith in (
+      search needs,
+      search needs,
+      search needs,
+      rw (add-one, take-suc-set (l .loop .words) i (c .register .result) h, l .loop .inv .3, c .register .ensures, registers-more (a .sonde) (a .device) (a .start) i),
+    )
+
+same-length : tie.Need-same-length Inv-loop μ-loop
+same-length c = search needs
+
+returns : tie.Need-returns Inv-loop μ-loop
+returns c =
+    let i : c .before .loop .i ≡ length (c .before .before .before .args .words .now) = omega arith in
+    rw (← i) (sym (take-all (c .before .loop .i) (c .before .loop .words) (omega arith)) ∙ c .before .loop .inv .3)
+
+pub fill-spec : {M : Type 1} → statement M
+fill-spec =
+    tie.close
+    (tie.spec
+    Inv-loop
+    μ-loop
+    loop-holds
+    cast-register
+    add-register
+    register-requires
+    mul-words
+    slice-write-words
+    add-i
+    loop-less
+    loop-again
+    same-length
+    returns)
