@@ -1,6 +1,5 @@
 // Dialogues, played through the calls and compared with the answers that stand in them. tests/dialogues/reference.py writes them, and
 // says what their lines mean.
-ghost use mathlib.Core.Path.{_≡_};
 ghost use Prim.Native.Nat.{_+_, _≤_, _<_};
 ghost use lib.ListN.{length};
 use crate::scene::Scene;
