@@ -34,17 +34,17 @@ fn refuse(sonde: Sonde, body: &[u8], reply: &mut [u8], code: u8) -> SondeFrame
     ensures { λ r. ⌜ r ≡ handed (refusal sonde (now (body .entry)) code) ⌝ }
     ensures { λ _. ⌜ now (reply .exit) ≡ overlay (refusal sonde (now (body .entry)) code .bytes) (now (reply .entry)) ⌝ }
 {
-    let counted = sonde.count_exception();
+    let refused = sonde.count_exception();
     let address = modbus::address(body);
     if address == 0 {
-        return silent(counted);
+        return silent(refused);
     }
     let function = modbus::function(body);
     let length = replies::put_exception(reply, address, function, code);
     SondeFrame {
         number: 0,
         length,
-        sonde: counted,
+        sonde: refused,
     }
 }
 
@@ -180,8 +180,11 @@ fn masked(sonde: Sonde, sensor: u16, field: Field, and_mask: u16, or_mask: u16) 
     requires { ⌜ IsSensor sensor ⌝ }
     ensures { λ r. ⌜ r ≡ maskedWord sonde sensor field «and_mask» «or_mask» ⌝ }
 {
-    let x = sonde.sensors[(sensor as usize) - 1];
-    let old = registers::sensor_register(sensor, x, field.offset);
+    let old = registers::sensor_register(
+        sensor,
+        sonde.sensors[(sensor as usize) - 1],
+        field.offset,
+    );
     modbus::masked(old, and_mask, or_mask)
 }
 

@@ -1,47 +1,17 @@
-// The checksum of published frames by the library and by a table of its own, compared. What the program prints is held to its file
-// stdout.
+// The library compared with two others: the checksums of published frames with those of a table, and its answers to dialogues with those of
+// tests/dialogues/reference.py. What the program prints is held to its file stdout.
+mod dialogues; // lines of calls and answers
+mod scene; // the sonde of a dialogue
 mod table; // CRC-16 by a table
+mod tally; // comparisons, counted
 mod text; // lines, and the bytes that they spell
 
 ghost use mathlib.Core.Path.{_≡_};
-ghost use Prim.Native.Nat.{_+_, _≤_, _<_};
+ghost use Prim.Native.Nat.{_≤_};
 ghost use lib.ListN.{length};
+use crate::tally::Tally;
 use libc::STDIN_FILENO;
 use libc::STDOUT_FILENO;
-
-// How many were compared, and how many of them differ.
-struct Tally {
-    compared: u64,
-    differ: u64,
-}
-
-impl Tally {
-    fn none() -> Tally
-        ensures { λ r. ⌜ (r .compared ≡ 0) × (r .differ ≡ 0) ⌝ }
-    {
-        Tally {
-            compared: 0,
-            differ: 0,
-        }
-    }
-
-    // One more.
-    fn with(self, agrees: bool) -> Tally
-        requires { ⌜ (self .compared < 65536) × (self .differ ≤ self .compared) ⌝ }
-        ensures { λ r. ⌜ (r .compared ≡ self .compared + 1) × (r .differ ≤ r .compared) ⌝ }
-    {
-        if agrees {
-            return Tally {
-                compared: self.compared + 1,
-                differ: self.differ,
-            };
-        }
-        Tally {
-            compared: self.compared + 1,
-            differ: self.differ + 1,
-        }
-    }
-}
 
 // The checksum that a frame carries, its last two bytes, low byte first; 0 where it has no two.
 fn sent(frame: &[u8]) -> u16 {
@@ -54,11 +24,7 @@ fn sent(frame: &[u8]) -> u16 {
 
 // The verdict, both checksums, and the line as it was read.
 fn print_frame(agrees: bool, library: u16, table: u16, line: &[u8]) {
-    if agrees {
-        io::write_all(STDOUT_FILENO, b"agrees  ");
-    } else {
-        io::write_all(STDOUT_FILENO, b"DIFFERS ");
-    }
+    tally::print_verdict(agrees);
     io::print_hex(STDOUT_FILENO, library as u64, 4);
     io::write_all(STDOUT_FILENO, b" ");
     io::print_hex(STDOUT_FILENO, table as u64, 4);
@@ -69,7 +35,7 @@ fn print_frame(agrees: bool, library: u16, table: u16, line: &[u8]) {
 
 // The frame of one line: the library, the table and the frame itself have one checksum, and the library takes the frame.
 fn compare_frame(line: &[u8]) -> bool {
-    let mut space = [0u8; 256];
+    let mut space = [0u8; 260];
     let n = text::decode(line, &mut space);
     let frame = &space[..n];
     let body = rtu::frame::body(frame);
@@ -82,12 +48,12 @@ fn compare_frame(line: &[u8]) -> bool {
 
 // Every frame of the input.
 fn compare_frames(input: &[u8]) -> Tally
-    requires { ⌜ length (now input) ≤ 4096 ⌝ }
+    requires { ⌜ length (now input) ≤ 131072 ⌝ }
 {
     let mut tally = Tally::none();
     let mut at = 0;
     while at < input.len() {
-        let end = text::line_end(input, at);
+        let end = text::find(input, at, b'\n');
         let line = &input[at..end];
         if !text::is_passed_over(line) {
             tally = tally.with(compare_frame(line));
@@ -133,29 +99,27 @@ fn sweep_lengths() -> Tally {
     tally
 }
 
-// How many were compared, what they are, and how many differ.
-fn print_tally(tally: Tally, what: &[u8]) {
-    io::print_decimal(STDOUT_FILENO, tally.compared);
-    io::write_all(STDOUT_FILENO, what);
-    io::print_decimal(STDOUT_FILENO, tally.differ);
-    io::write_all(STDOUT_FILENO, b" differ\n");
+// Published frames, up to a line that begins with `-`, and dialogues after it.
+fn compare(input: &[u8])
+    requires { ⌜ length (now input) ≤ 131072 ⌝ }
+{
+    let mark = text::part_end(input, 0, b'-');
+    let frames = compare_frames(&input[..mark]);
+    sweep_bytes().print(b" messages of one byte, every byte, ");
+    sweep_lengths().print(b" messages of one pattern, every length from 0 to 256, ");
+    frames.print(b" frames, ");
+    dialogues::play_all(&input[mark..]).print(b" dialogues, ");
 }
 
 fn main() {
-    let mut space = io::buffer();
+    let mut space = [0u8; 131072];
     let n = io::read_full(STDIN_FILENO, &mut space);
-    if n == 4096 {
+    if n == 131072 {
         io::write_all(
             STDOUT_FILENO,
             b"the input fills its buffer and may be cut off\n",
         );
         return;
     }
-    let frames = compare_frames(&space[..n]);
-    print_tally(sweep_bytes(), b" messages of one byte, every byte, ");
-    print_tally(
-        sweep_lengths(),
-        b" messages of one pattern, every length from 0 to 256, ",
-    );
-    print_tally(frames, b" frames, ");
+    compare(&space[..n]);
 }

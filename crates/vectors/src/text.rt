@@ -1,19 +1,19 @@
-// The text of published frames: its lines, and the bytes that a line spells.
+// Text: its lines, and the bytes that a line spells.
 ghost use mathlib.Core.Path.{_≡_};
-ghost use Prim.Native.Nat.{_≤_};
+ghost use Prim.Native.Nat.{_+_, _≤_};
 ghost use lib.ListN.{length};
 ghost use Rattle.io.specs.Counts.{Counts};
 ghost use Rattle.vectors.specs.Text.{digitOf};
 
-// Where the line that begins at a place ends: at its line feed, or at the end of the text.
-pub fn line_end(text: &[u8], at: usize) -> usize
+// Where a character first stands from a place on, or the end of the text.
+pub fn find(text: &[u8], at: usize, c: u8) -> usize
     requires { ⌜ at ≤ length (now text) ⌝ }
     ensures { λ r. ⌜ at ≤ r ⌝ }
     ensures { λ r. ⌜ r ≤ length (now (text .entry)) ⌝ }
 {
     let mut end = at;
     while end < text.len() {
-        if text[end] == b'\n' {
+        if text[end] == c {
             return end;
         }
         end += 1;
@@ -21,17 +21,31 @@ pub fn line_end(text: &[u8], at: usize) -> usize
     end
 }
 
-// Whether a line has no frame: it is empty, or begins with `#`.
-pub fn is_passed_over(line: &[u8]) -> bool {
-    if line.len() == 0 {
-        return true;
+// Where the part that a place is in ends: at the line feed before a line that begins with `mark`, or at the end of the text.
+pub fn part_end(text: &[u8], at: usize, mark: u8) -> usize
+    requires { ⌜ at ≤ length (now text) ⌝ }
+    ensures { λ r. ⌜ at ≤ r ⌝ }
+    ensures { λ r. ⌜ r ≤ length (now (text .entry)) ⌝ }
+{
+    let mut end = at;
+    while end < text.len() {
+        if (text[end] == b'\n') & (character(text, end + 1) == mark) {
+            return end;
+        }
+        end += 1;
     }
-    line[0] == b'#'
+    end
 }
 
 // The character at a place of a line, and 0 past its end.
-fn character(line: &[u8], at: usize) -> u8 {
+pub fn character(line: &[u8], at: usize) -> u8 {
     if at < line.len() { line[at] } else { 0 }
+}
+
+// Whether a line has nothing to play or compare: it is empty, or begins with `#`.
+pub fn is_passed_over(line: &[u8]) -> bool {
+    let first = character(line, 0);
+    (first == 0) | (first == b'#')
 }
 
 // The value of a hexadecimal digit, and 16 for any other character.
@@ -66,36 +80,34 @@ fn pair(high: u8, low: u8) -> u16
     (h as u16) * 16 + (l as u16)
 }
 
-// Whether a line's note begins at a place: two spaces and `#`.
-fn is_note(line: &[u8], at: usize) -> bool
-    requires { ⌜ at ≤ 768 ⌝ }
+// A place of a line, or the next where a space stands there.
+fn past_space(line: &[u8], at: usize) -> usize
+    requires { ⌜ at ≤ 1000 ⌝ }
+    ensures { λ r. ⌜ r ≤ at + 1 ⌝ }
 {
-    (character(line, at) == b' ')
-        & (character(line, at + 1) == b' ')
-        & (character(line, at + 2) == b'#')
+    if character(line, at) == b' ' {
+        return at + 1;
+    }
+    at
 }
 
-// Puts the bytes that a line spells before its note at the start of `out`, and gives how many they are: 0 where the line has
-// another form.
-pub fn decode(line: &[u8], out: &mut [u8; 256]) -> usize
-    requires { ⌜ 256 ≡ length (now out) ⌝ }
+// Puts the bytes that a line spells at its start, each in two digits with or without a space in front, at the start of `out`,
+// and gives how many they are.
+pub fn decode(line: &[u8], out: &mut [u8; 260]) -> usize
+    requires { ⌜ 260 ≡ length (now out) ⌝ }
     ensures { λ r. ⌜ Counts r (now (out .exit)) ⌝ }
 {
     let mut n: usize = 0;
-    while n < 256 {
-        let byte = pair(character(line, n * 3), character(line, n * 3 + 1));
+    let mut at: usize = 0;
+    while n < 260 {
+        let from = past_space(line, at);
+        let byte = pair(character(line, from), character(line, from + 1));
         if byte > 255 {
-            return 0;
-        }
-        out[n] = byte as u8;
-        let after = n * 3 + 2;
-        n += 1;
-        if is_note(line, after) {
             return n;
         }
-        if character(line, after) != b' ' {
-            return 0;
-        }
+        out[n] = byte as u8;
+        n += 1;
+        at = from + 2;
     }
-    0
+    n
 }

@@ -10,9 +10,6 @@ use Rattle.calls.specs.Frame.{registersFrom}
 use Rattle.frames.proofs.Registers.{registers-more}
 use Rattle.frames.proofs.fill.Statement.{statement}
 use Rattle.frames.proofs.fill.Tie as tie
-use Rattle.frames.proofs.fill.Reads as reads
-use Rattle.frames.proofs.fill.Lts as lts
-use Rattle.frames.proofs.register.Reads as register-reads
 
 abbrev Inv-loop : tie.InvT-loop
 Inv-loop words₀ sonde device start i₀ i-end words i =
@@ -23,27 +20,6 @@ abbrev μ-loop : tie.MeasureT-loop
 
 loop-holds : tie.Need-loop-holds Inv-loop μ-loop
 loop-holds c = (refl, omega arith, refl, refl)
-
-cast-register : tie.Need-cast-register Inv-loop μ-loop
-cast-register c = search needs
-
-add-register : tie.Need-add-register Inv-loop μ-loop
-add-register c = search needs
-
-register-requires : tie.Need-register-requires Inv-loop μ-loop
-register-requires c κs = search needs
-
-mul-words : tie.Need-mul-words Inv-loop μ-loop
-mul-words c = search needs
-
-slice-write-words : tie.Need-slice-write-words Inv-loop μ-loop
-slice-write-words c = search needs
-
-add-i : tie.Need-add-i Inv-loop μ-loop
-add-i c = search needs
-
-loop-less : tie.Need-loop-less Inv-loop μ-loop
-loop-less c = search needs
 
 loop-again : tie.Need-loop-again Inv-loop μ-loop
 loop-again c =
@@ -57,9 +33,6 @@ loop-again c =
       rw (add-one, take-suc-set (l .loop .words) i (c .register .result) h, l .loop .inv .3, c .register .ensures, registers-more (a .sonde) (a .device) (a .start) i),
     )
 
-same-length : tie.Need-same-length Inv-loop μ-loop
-same-length c = search needs
-
 returns : tie.Need-returns Inv-loop μ-loop
 returns c =
     let i : c .before .loop .i ≡ length (c .before .before .before .args .words .now) = omega arith in
@@ -72,13 +45,13 @@ fill-spec =
     Inv-loop
     μ-loop
     loop-holds
-    cast-register
-    add-register
-    register-requires
-    mul-words
-    slice-write-words
-    add-i
-    loop-less
+    (λ c. search needs)
+    (λ c. search needs)
+    (λ c κs. search needs)
+    (λ c. search needs)
+    (λ c. search needs)
+    (λ c. search needs)
+    (λ c. search needs)
     loop-again
-    same-length
+    (λ c. search needs)
     returns)

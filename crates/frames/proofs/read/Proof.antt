@@ -9,12 +9,6 @@ use Rattle.calls.specs.Frame.{deviceOf, registersFrom, reading}
 use borrow.Author.Needs.{needs}
 use Rattle.frames.proofs.read.Statement.{statement}
 use Rattle.frames.proofs.read.Tie as tie
-use Rattle.frames.proofs.read.Reads as reads
-use Rattle.frames.proofs.read.Lts as lts
-use Rattle.frames.proofs.device.Reads as device-reads
-use Rattle.frames.proofs.fill.Reads as fill-reads
-use Rattle.replies.proofs.put_read.Reads as put-read-reads
-use Rattle.state.proofs.Sonde.count_good.Reads as count-good-reads
 
 -- what the local array holds before the registers are read
 abbrev zeros : List ℕ
@@ -27,25 +21,14 @@ zeros-length n h = length-take-le n zeros h
 filled : (n : ℕ) (xs : List ℕ) → n ≤ 125 → length xs ≡ length (take n zeros) → take n (xs ++ drop n zeros) ≡ xs
 filled n xs h e = take-at xs (drop n zeros) n (e ∙ zeros-length n h)
 
--- src/lib.rt:136:10
-array-borrow-prefix-words : tie.Need-array-borrow-prefix-words
-array-borrow-prefix-words c = search needs
-
--- src/lib.rt:136:10
 slice-aggregate-fill : tie.Need-slice-aggregate-fill
 slice-aggregate-fill c = sym (length-take-le _ _ (omega arith))
 
--- src/lib.rt:136:34
-device-requires : tie.Need-device-requires
-device-requires c κs = search needs
-
--- src/lib.rt:136:5
 fill-requires : tie.Need-fill-requires
 fill-requires c κs =
     let a = c .before .before .before .before .args in
     rw (zeros-length (a .count) (omega arith)) (omega arith)
 
--- src/lib.rt:137:58
 array-share-prefix-words : tie.Need-array-share-prefix-words
 array-share-prefix-words c =
     let f = c .before .before in
@@ -53,7 +36,6 @@ array-share-prefix-words c =
     let e = f .fill .kept .0 ∙ zeros-length n (omega arith) in
     rw length-append (omega arith)
 
--- src/lib.rt:137:58
 slice-aggregate-put-read : tie.Need-slice-aggregate-put-read
 slice-aggregate-put-read c =
     let f = c .before .before .before in
@@ -61,7 +43,6 @@ slice-aggregate-put-read c =
     let h : n ≤ 125 = omega arith in
     sym (rw (filled n (f .fill .last .0) h (f .fill .kept .0)) (f .fill .kept .0 ∙ zeros-length n h))
 
--- src/lib.rt:137:9
 put-read-requires : tie.Need-put-read-requires
 put-read-requires c κs =
     let f = c .before .before .before in
@@ -70,15 +51,6 @@ put-read-requires c κs =
     let e = f .fill .kept .0 ∙ zeros-length n h in
     (search needs, rw (filled n (f .fill .last .0) h (f .fill .kept .0)) (omega arith))
 
--- src/lib.rt:141:16
-count-good-requires : tie.Need-count-good-requires
-count-good-requires c κs = search needs
-
--- src/lib.rt:122:1
-same-length : tie.Need-same-length
-same-length c = search needs
-
--- src/lib.rt:122:1
 returns : tie.Need-returns
 unfolding reading
 returns c =
@@ -95,13 +67,13 @@ pub read-spec : {M : Type 1} → statement M
 read-spec =
     tie.close
     (tie.spec
-    array-borrow-prefix-words
+    (λ c. search needs)
     slice-aggregate-fill
-    device-requires
+    (λ c κs. search needs)
     fill-requires
     array-share-prefix-words
     slice-aggregate-put-read
     put-read-requires
-    count-good-requires
-    same-length
+    (λ c κs. search needs)
+    (λ c. search needs)
     returns)
