@@ -131,6 +131,7 @@ fn read(
     ensures { λ r. ⌜ r ≡ handed (reading sonde (now (volume .entry)) clock start count) ⌝ }
     ensures { λ _. ⌜ now (reply .exit) ≡ overlay (reading sonde (now (volume .entry)) clock start count .bytes) (now (reply .entry)) ⌝ }
 {
+    let counted = sonde.count_good();
     let mut words: [u16; 125] = [0; 125];
     let n = count as usize;
     fill(&mut words[..n], sonde, device(sonde, volume, clock), start);
@@ -138,7 +139,7 @@ fn read(
     SondeFrame {
         number: 0,
         length,
-        sonde: sonde.count_good(),
+        sonde: counted,
     }
 }
 

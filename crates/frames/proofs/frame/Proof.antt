@@ -28,7 +28,9 @@ returns-3 c =
     let e = d .before in
     let f = e .before in
     let g = f .before .before in
-    simp (le-ltb _ _ (g .if1 .left), ← f .agrees .ensures, not-false (f .agrees .result) (e .if2 .left), ← d .is-good .ensures, not-true (d .is-good .result) (b .if3 .taken), ← a .count-bad .ensures, c .silent .ensures)
+    let fit = not-false (f .agrees .result) (e .if2 .left) in
+    let bad = not-true (d .is-good .result) (b .if3 .taken) in
+    simp (le-ltb _ _ (g .if1 .left), ← f .agrees .ensures, fit, ← d .is-good .ensures, bad, ← a .count-bad .ensures, c .silent .ensures)
 
 answer-requires : tie.Need-answer-requires
 answer-requires c κs =
@@ -52,7 +54,9 @@ returns-4 c =
     let f = e .before in
     let g = f .before in
     let h = g .before .before in
-    simp (le-ltb _ _ (h .if1 .left), ← g .agrees .ensures, not-false (g .agrees .result) (f .if2 .left), ← e .is-good .ensures, not-false (e .is-good .result) (d .if3 .left), ← b .body .ensures, ← a .answer .ensures)
+    let fit = not-false (g .agrees .result) (f .if2 .left) in
+    let good = not-false (e .is-good .result) (d .if3 .left) in
+    simp (le-ltb _ _ (h .if1 .left), ← g .agrees .ensures, fit, ← e .is-good .ensures, good, ← b .body .ensures, ← a .answer .ensures)
 
 pub frame-spec : {M : Type 1} → statement M
 frame-spec =

@@ -69,7 +69,8 @@ returns-3 c =
     let f = e .before .before in
     let g = f .before in
     let h = g .before .before in
-    simp (← h .setup .ensures, ← g .spare .ensures, ← f .write .ensures, e .s2 .given .1, ← d .append .ensures, ← b .with-setup2 .ensures, a .confirm2 .ensures .0, ← a .confirm2 .ensures .1)
+    let x = a .confirm2 .ensures in
+    simp (← h .setup .ensures, ← g .spare .ensures, ← f .write .ensures, e .s2 .given .1, ← d .append .ensures, ← b .with-setup2 .ensures, x .0, ← x .1)
 
 pub write-spec : {M : Type 1} → statement M
 write-spec =
