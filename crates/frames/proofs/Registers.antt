@@ -1,19 +1,14 @@
--- Registers that follow each other: how many they are, and one more. Assumes nothing.
-use mathlib.Core.Path.{_≡_, refl, ap, _∙_}
+-- Registers that follow each other, one more. Assumes nothing.
+use mathlib.Core.Path.{_≡_, ap, _∙_}
 use mathlib.Core.List.{List, [], _∷_, _++_}
 use Prim.Native.Nat.{ℕ, zero, suc, _+_}
 use native.Mathlib.Nat.{add-zero}
 use native.Mathlib.Omega.{arith}
-use lib.ListN.{length}
 use Rattle.registers.specs.declared.Device.{Device}
 use Rattle.state.specs.declared.Sonde.{Sonde}
 use Rattle.calls.specs.Frame.{registerOf, registersFrom}
 
 module _ (d : Sonde) (v : Device) where
-  pub registers-length : (r n : ℕ) → length (registersFrom d v r n) ≡ n
-  registers-length r zero = refl
-  registers-length r (suc n) = ap suc (registers-length (suc r) n)
-
   -- the last of n + 1 registers
   pub registers-more : (r n : ℕ) → registersFrom d v r (suc n) ≡ registersFrom d v r n ++ registerOf d v (r + n) ∷ []
   registers-more r zero = rw add-zero
