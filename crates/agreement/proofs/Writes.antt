@@ -30,7 +30,7 @@ use Rattle.writes.proofs.Updates.{Update, update-facts, update-valid, update-fi
 use Rattle.state.specs.Sonde.{sonde, sensorAt, setupAt, withSetup, countedGood, countedException}
 use Rattle.state.specs.declared.Counters.{Counters}
 use Rattle.calls.specs.Frame.{Outcome, refusal, confirmation, spareIn, writeAt, carried, maskedWord}
-use Rattle.agreement.specs.Model.{Model, model, setupOf, spareIn as bookSpare, writeIn, maskedIn, stored, kept}
+use Rattle.agreement.specs.Model.{Model, model, setupOf, hasRoom, writeIn, maskedIn, stored, kept}
 use Rattle.agreement.specs.Runs.{State, state}
 use Rattle.agreement.specs.Accepted.{calibrated}
 use Rattle.agreement.proofs.Sondes.{setup-replaced, setup-same, setup-valid, setup-fits, counted, with-setup}
@@ -47,8 +47,8 @@ unmeasured s x y =
 
 module _ {x : State} {b : Model} (h : Invariant x b) where
   -- an entry is spare in the volume where it is in the book
-  spare-same : spareIn (x .volume) ≡ bookSpare (b .journal)
-  unfolding spareIn bookSpare
+  spare-same : spareIn (x .volume) ≡ hasRoom (b .journal)
+  unfolding spareIn hasRoom
   spare-same = rw (holds-used (x .volume) (b .journal) (h .holds), h .holds .capacity-is)
 
   -- the write of a field
@@ -134,7 +134,7 @@ module _ {x : State} {b : Model} (h : Invariant x b) where
       -- an update adds its entry, which is that of an accepted calibration
       update-keeps : (y : Setup) (n : Entry) → writeOf s old f high low clock spare ≡ Updated y n
           → Answered x b (carried (x .sonde) body reply (x .volume) s (Updated y n)) (kept b s (Updated y n)) (cond (eqb (f .offset) 5 && eqb high 0xE001) s 0)
-      unfolding bookSpare on calibrated
+      unfolding hasRoom on calibrated
       update-keeps y n e =
           rw (eq-eqb (f .offset) 5 (u .is-command), eq-eqb high 0xE001 (u .is-update))
           (record { no-number = refl; invariant = after; entries = rw (ne-eqb s 0 (λ z. omega arith)) (ap (λ (d : Entry). b .journal .entries ++ (d ∷ [])) entry-is) })

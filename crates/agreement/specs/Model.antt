@@ -79,12 +79,12 @@ modelPowerUp b address = cond (addressValid address) (model address (poweredSetu
 -- ---- frame
 
 -- whether an entry is spare, by the book's own count
-unfoldable pub spareIn : Journal → Bool
-spareIn j = ltb (length (j .entries)) (j .capacity)
+unfoldable pub hasRoom : Journal → Bool
+hasRoom j = ltb (length (j .entries)) (j .capacity)
 
 -- the field's write, "judged by this paper's rules on the book's own values"
 unfoldable pub writeIn : Model → ℕ → ℕ → Field → ℕ → ℕ → Written
-writeIn b clock s f high low = writeOf s (setupOf (b .setups) s) f high low clock (spareIn (b .journal))
+writeIn b clock s f high low = writeOf s (setupOf (b .setups) s) f high low clock (hasRoom (b .journal))
 
 -- what a mask makes of the word that the book has: a field that a mask can write shows a setup's word and no measurement
 unfoldable pub maskedIn : Model → ℕ → Field → ℕ → ℕ → ℕ
