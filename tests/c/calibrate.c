@@ -35,14 +35,22 @@ static size_t sealed(uint8_t *bytes, size_t n) {
     return n + 2;
 }
 
-/* Sends a body as a frame and holds the reply to the expected body. */
+/* Whether the reply buffer past n bytes is as it was before the frame. */
+static bool rest_stays(size_t n) {
+    for (size_t i = n; i < sizeof reply; i++)
+        if (reply[i] != 0xAA) return false;
+    return true;
+}
+
+/* Sends a body as a frame and holds the reply to the expected body; the bytes past it stay. */
 static Sonde ask(Sonde sonde, const uint8_t *body, size_t n, const uint8_t *expected, size_t m, const char *what) {
     uint8_t frame[256], answer[256];
     memcpy(frame, body, n);
     memcpy(answer, expected, m);
     size_t sent = sealed(frame, n), due = sealed(answer, m);
+    memset(reply, 0xAA, sizeof reply);
     SondeFrame f = sonde_frame(sonde, frame, sent, reply, sizeof reply, volume, WORDS, 0x12345678);
-    check(f.number == SONDE_OK && f.length == due && memcmp(reply, answer, due) == 0, what);
+    check(f.number == SONDE_OK && f.length == due && memcmp(reply, answer, due) == 0 && rest_stays(due), what);
     return f.sonde;
 }
 
@@ -73,6 +81,17 @@ int main(void) {
     made = sonde_measure(s, 2, true, 4.0f, 0.0f);
     check(made.number == SONDE_OK, "measure of 4");
     s = ask(made.sonde, BYTES(17, 3, 0, 230, 0, 2), BYTES(17, 3, 4, 0x40, 0x90, 0, 0), "oxygen reads 4.5");
+
+    /* Numbers of the frame call, a bad frame, and a counter that has stopped. */
+    memset(reply, 0xAA, sizeof reply);
+    SondeFrame f = sonde_frame(s, BYTES(17, 3, 0, 0, 0, 1), reply, SONDE_REPLY_BYTES - 1, volume, WORDS, 0);
+    check(f.number == SONDE_SHORT_REPLY && f.length == 0 && f.sonde.counters.bad == 0 && rest_stays(0), "reply buffer of 255 bytes: number 3, nothing counted");
+    s.counters.bad = 65535;
+    f = sonde_frame(s, BYTES(17, 3, 0, 0, 0, 1), reply, sizeof reply, volume, WORDS, 0);
+    check(f.number == SONDE_OK && f.length == 0 && f.sonde.counters.bad == 65535 && rest_stays(0), "bad frame: no reply, and the counter stops");
+    s.counters.good = 65535;
+    s = ask(s, BYTES(17, 0x44, 1), BYTES(17, 0xC4, 1), "another function: code 1");
+    check(s.counters.good == 65535 && s.counters.exceptions == 1, "the good counter stops, the exception counts");
 
     SondeAudit audit = sonde_audit(s, volume, WORDS);
     check(audit.number == SONDE_OK && audit.entries == 1, "audit: 0 and 1 entry");
