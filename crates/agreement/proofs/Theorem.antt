@@ -2,15 +2,13 @@
 use mathlib.Core.Path.{_≡_, refl}
 use mathlib.Core.Bool.{true, not}
 use mathlib.Core.List.{List, [], _∷_}
-use Prim.Native.Nat.{ℕ}
 use lib.Dec.{eqb}
 use Rattle.journal.specs.Journal.{every}
-use Rattle.calls.specs.Calls.{freshOf, beginOf}
 use Rattle.agreement.specs.Model.{Model, modelStart}
 use Rattle.agreement.specs.Runs.{Call, State, run, numbers, modelRun}
 use Rattle.agreement.specs.Runs.Call.{Frame, Measure, PowerUp, Begin}
 use Rattle.agreement.specs.Accepted.{acceptedFrom}
-use Rattle.agreement.specs.Agreement.{Agreement}
+use Rattle.agreement.specs.Agreement.{NoListParts}
 use Rattle.agreement.proofs.Invariant.{Invariant, agree}
 use Rattle.agreement.proofs.Calls.{Keeps, measure-keeps, power-up-keeps, begin-keeps, start-invariant}
 use Rattle.agreement.proofs.Frames.{frame-keeps}
@@ -36,8 +34,7 @@ run-accepted h [] = refl
 run-accepted h (c ∷ cs) = rw (← (keeps h c .entries)) (run-accepted (keeps h c .invariant) cs)
 
 -- after a fresh and a begin that aren't refused, whatever the calls and their arguments
-pub agreement : (address : ℕ) (first : List ℕ) → freshOf address .number ≡ 0 → beginOf (freshOf address .sonde) first .number ≡ 0
-    → (calls : List Call) → Agreement address first calls
+pub agreement : NoListParts
 unfolding modelStart
 agreement address first f g calls =
     let h = start-invariant address first f g in

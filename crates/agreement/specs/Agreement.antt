@@ -13,7 +13,7 @@ use Rattle.journal.specs.Layout.{layout}
 use Rattle.journal.specs.Valid.{chain, chainOf, member}
 use Rattle.journal.specs.Replay.{replayOf}
 use Rattle.state.specs.Sonde.{setupAt}
-use Rattle.calls.specs.Calls.{auditOf}
+use Rattle.calls.specs.Calls.{freshOf, beginOf, auditOf}
 use Rattle.agreement.specs.Model.{Model, setupOf, modelStart}
 use Rattle.agreement.specs.Runs.{Call, State, run, numbers, start, modelRun}
 use Rattle.agreement.specs.Accepted.{acceptedFrom}
@@ -56,3 +56,10 @@ pub record Agreement (address : ℕ) (first : List ℕ) (calls : List Call) : Ty
   pub agree : Agree (run (start address first) calls) (modelRun (modelStart address (length first)) calls)
   -- "The entries added are demand 3's accepted calibrations": all of them since the last begin, in order, and no others
   pub accepted : modelRun (modelStart address (length first)) calls .journal .entries ≡ acceptedFrom [] (start address first) calls
+
+-- Demand 3: "No list of calls parts the journal from the figures in force". The only assumptions are that the first fresh and the first begin
+-- weren't refused; the arguments of all calls are any values.
+abbrev pub NoListParts : Type 0
+NoListParts =
+    (address : ℕ) (first : List ℕ) → freshOf address .number ≡ 0 → beginOf (freshOf address .sonde) first .number ≡ 0 → (calls : List Call)
+    → Agreement address first calls
