@@ -1,7 +1,7 @@
 -- Accepted calibrations, told from the frames and the sonde alone. Document 01, "Calibration": "An accepted calibration is a frame that counts
 -- good, own address or 0, that writes 0xE001 to a command register and meets no refusal below, whether or not a reply is sent."
 -- Assumes nothing.
-use mathlib.Core.Bool.{Bool, false, _&&_, cond}
+use mathlib.Core.Bool.{_&&_, cond}
 use mathlib.Core.List.{List, [], _∷_, _++_}
 use Prim.Native.Nat.{ℕ}
 use lib.Dec.{eqb}

@@ -9,7 +9,7 @@ use lib.ListN.{length}
 use Rattle.state.specs.declared.Sonde.{Sonde}
 use Rattle.calls.specs.Calls.{freshOf, beginOf, powerUpOf, measureOf}
 use Rattle.calls.specs.Frame.{Outcome, frameOf}
-use Rattle.agreement.specs.Model.{Model, modelStart, modelBegin, modelPowerUp, modelFrame}
+use Rattle.agreement.specs.Model.{Model, modelBegin, modelPowerUp, modelFrame}
 
 -- a call with its arguments: any values of their types, NaN, infinities and hostile words included
 pub data Call : Type 0 where

@@ -26,7 +26,7 @@ use Rattle.state.specs.Sonde.{setupAt, countedGood, countedBad, validSonde}
 use Rattle.state.specs.declared.Sonde.{Sonde}
 use Rattle.calls.specs.Agrees.{openings, agrees}
 use Rattle.calls.specs.Calls.{beginOf, begun}
-use Rattle.calls.specs.Frame.{Outcome, outcome, refusedBy, Answer, answer, left, refusal, confirmation, reading, spareIn, writeAt, carried, maskedWord, codeBy, planned, judged, frameOf}
+use Rattle.calls.specs.Frame.{Outcome, outcome, refusedBy, Answer, answer, left, refusal, reading, spareIn, writeAt, carried, maskedWord, codeBy, planned, judged, frameOf}
 use Rattle.calls.proofs.Parts.{agrees-parts}
 
 -- the words past the entries in use and one entry more

@@ -1,5 +1,5 @@
 -- What a frame does: number, sonde, reply and volume as one function of what goes in. Document 01, "Frames", in its order: numbers 3 and 4;
--- bad; another's; a read at address 0; codes 1, 3, 2, 0x80; then the field's write. Assumes nothing.
+-- bad; another's; a read at address 0; codes 1, 3, 2, 0x80 and 0xC2, which the plan has; then the field's write. Assumes nothing.
 use mathlib.Core.Bool.{Bool, cond}
 use mathlib.Core.List.{List, [], _∷_}
 use Prim.Native.Nat.{ℕ, zero, suc, _/_, _%_}

@@ -1,12 +1,11 @@
 -- What is known of a plan: a read stays on the map, and a write goes to a sensor's writable field. Assumes nothing.
 use mathlib.Core.Path.{_≡_, refl, sym, subst}
-use mathlib.Core.Bool.{Bool, true, false, cond}
 use mathlib.Core.List.{List}
-use Prim.Native.Nat.{ℕ, _+_, _/_, _%_, _≤_, _<_}
+use Prim.Native.Nat.{ℕ, _+_, _/_, _%_, _≤_}
 use lib.Dec.{eqb}
 use lib.ListN.{length}
 use borrow.Author.Tests.{eqb-false}
-use Rattle.rtu.specs.Bytes.{Bytes}
+use Rattle.floats.proofs.Bools.{choose}
 use Rattle.modbus.specs.Request.{addressOf, functionOf, requestOf}
 use Rattle.modbus.specs.declared.Request.{Request}
 use Rattle.modbus.specs.declared.Request.the-variants.{Unsupported, Malformed, Read, Write, Mask}
@@ -38,25 +37,17 @@ pub record Reads (start count : ℕ) : Type 0 where
   pub most : count ≤ 125
   pub ends : start + count ≤ 500
 
-pub record Writes (body : List ℕ) (sensor : ℕ) (f : Field) (high low : ℕ) : Type 0 where
-  pub located : Located (f .words) sensor f
+pub record Writes (body : List ℕ) (count sensor : ℕ) (f : Field) : Type 0 where
+  pub located : Located count sensor f
   pub long : 6 ≤ length body
-  pub high-word : Bytes body → high < 65536
-  pub low-word : Bytes body → low < 65536
-
-pub record Masks (body : List ℕ) (sensor : ℕ) (f : Field) (a b : ℕ) : Type 0 where
-  pub located : Located 1 sensor f
-  pub long : 6 ≤ length body
-  pub and-word : Bytes body → a < 65536
-  pub or-word : Bytes body → b < 65536
 
 abbrev pub Facts : List ℕ → Plan → Type 0
 Facts body Foreign = Unit {0}
 Facts body BroadcastRead = Unit {0}
 Facts body (Refused code) = Unit {0}
 Facts body (Reading start count) = Reads start count
-Facts body (Writing s f high low) = Writes body s f high low
-Facts body (Masking s f a b) = Masks body s f a b
+Facts body (Writing s f high low) = Writes body (f .words) s f
+Facts body (Masking s f a b) = Writes body 1 s f
 
 -- ---- the field of a write
 
@@ -67,41 +58,34 @@ Fit count (Writable s f) = Located count s f
 module _ (start count : ℕ) where
   found-fit : (x : Found) → whole start count ≡ x → Fit count (targetIn (start / 100) x)
   found-fit Absent e = tt
-  found-fit (Row f) e = go (eqb (f .access) 0) refl
-    where
-      go : (b : Bool) → eqb (f .access) 0 ≡ b → Fit count (cond b (Unfit 0xC2) (Writable (start / 100) f))
-      go true t = tt
-      go false t =
-          let w = whole-row start count f e in
-          let n = eqb-false (f .access) 0 t in
-          record {
-            register = start;
-            owner = refl;
-            field = w .field;
-            begins = w .begins;
-            all = w .all;
-            writable = n;
-            is-sensor = written-sensor start f (w .field) n;
-          }
+  found-fit (Row f) e =
+      choose (Fit count) (eqb (f .access) 0) (Unfit 0xC2) (Writable (start / 100) f) (λ t. tt)
+      (λ t.
+      let w = whole-row start count f e in
+      let n = eqb-false (f .access) 0 t in
+      record {
+        register = start;
+        owner = refl;
+        field = w .field;
+        begins = w .begins;
+        all = w .all;
+        writable = n;
+        is-sensor = written-sensor start f (w .field) n;
+      })
 
   target-fit : Fit count (targetOf start count)
   unfolding targetOf
-  target-fit = go (allFound start count)
-    where
-      go : (b : Bool) → Fit count (cond b (targetIn (start / 100) (whole start count)) (Unfit 2))
-      go true = found-fit (whole start count) refl
-      go false = tt
+  target-fit =
+      choose (Fit count) (allFound start count) (targetIn (start / 100) (whole start count)) (Unfit 2) (λ t. found-fit (whole start count) refl) (λ t. tt)
 
 -- ---- the plan
 
 module _ (body : List ℕ) where
   read-facts : (start count : ℕ) → 1 ≤ count → count ≤ 125 → Facts body (readingOf start count)
   unfolding readingOf
-  read-facts start count h k = go (allFound start count) refl
-    where
-      go : (b : Bool) → allFound start count ≡ b → Facts body (cond b (Reading start count) (Refused 2))
-      go true e = record { least = h; most = k; ends = all-found-ends start count e h }
-      go false e = tt
+  read-facts start count h k =
+      choose (Facts body) (allFound start count) (Reading start count) (Refused 2) (λ e. record { least = h; most = k; ends = all-found-ends start count e h })
+      (λ e. tt)
 
   request-facts : (r : Request) → InRange body r → Facts body (requested r)
   request-facts Unsupported h = tt
@@ -111,23 +95,21 @@ module _ (body : List ℕ) where
     where
       go : (t : Target) → Fit count t → Facts body (writingOf first second t)
       go (Unfit code) l = tt
-      go (Writable s f) l = record { located = subst (λ (n : ℕ). Located n s f) (sym (l .all)) l; long = h .long; high-word = h .first-word; low-word = h .second-word }
+      go (Writable s f) l = record { located = subst (λ (n : ℕ). Located n s f) (sym (l .all)) l; long = h .long }
   request-facts (Mask register a b) h = go (targetOf register 1) (target-fit register 1)
     where
       go : (t : Target) → Fit 1 t → Facts body (maskingOf a b t)
       go (Unfit code) l = tt
-      go (Writable s f) l = record { located = l; long = h .long; and-word = h .and-word; or-word = h .or-word }
-
-  choose : (b : Bool) (x y : Plan) → Facts body x → Facts body y → Facts body (cond b x y)
-  choose true x y f g = f
-  choose false x y f g = g
+      go (Writable s f) l = record { located = l; long = h .long }
 
 -- whatever a body asks for has the facts of its plan
 pub plan-facts : (own : ℕ) (body : List ℕ) → Facts body (planOf own body)
 unfolding planOf
 plan-facts own body =
+    let p = requested (requestOf body) in
     let r = request-facts body (requestOf body) (in-range body) in
-    choose body (eqb (addressOf body) 0) _ _ (choose body (eqb (functionOf body) 3) BroadcastRead _ tt r) (choose body (eqb (addressOf body) own) _ Foreign r tt)
+    choose (Facts body) (eqb (addressOf body) 0) _ _ (λ z. choose (Facts body) (eqb (functionOf body) 3) BroadcastRead p (λ t. tt) (λ t. r))
+    (λ z. choose (Facts body) (eqb (addressOf body) own) p Foreign (λ t. r) (λ t. tt))
 
 -- the facts of a plan that is known
 pub facts-of : (own : ℕ) (body : List ℕ) {p : Plan} → planOf own body ≡ p → Facts body p
