@@ -1,0 +1,123 @@
+//! The C interface, as `include/sonde.h` declares and explains it. `tests/layout.rs` holds both to the library's own structs.
+
+#[repr(C)]
+#[derive(Clone, Copy, Debug, Default, PartialEq)]
+pub struct Coefficients {
+    pub first: f32,
+    pub second: f32,
+    pub third: f32,
+}
+
+#[repr(C)]
+#[derive(Clone, Copy, Debug, Default, PartialEq)]
+pub struct Calibration {
+    pub first: f32,
+    pub second: f32,
+    pub third: f32,
+    pub time: u32,
+}
+
+#[repr(C)]
+#[derive(Clone, Copy, Debug, Default, PartialEq)]
+pub struct Points {
+    pub x1: f32,
+    pub y1: f32,
+    pub x2: f32,
+    pub y2: f32,
+}
+
+#[repr(C)]
+#[derive(Clone, Copy, Debug, Default, PartialEq)]
+pub struct Parameter {
+    pub units: u16,
+    pub sentinel: f32,
+}
+
+#[repr(C)]
+#[derive(Clone, Copy, Debug, Default, PartialEq)]
+pub struct Setup {
+    pub calibrating: bool,
+    pub active: Calibration,
+    pub trial: Coefficients,
+    pub method: u16,
+    pub points: Points,
+    pub next: u32,
+    pub level: u16,
+    pub first: Parameter,
+    pub second: Parameter,
+    pub third: Parameter,
+}
+
+#[repr(C)]
+#[derive(Clone, Copy, Debug, Default, PartialEq)]
+pub struct Sample {
+    pub present: bool,
+    pub first: f32,
+    pub second: f32,
+}
+
+#[repr(C)]
+#[derive(Clone, Copy, Debug, Default, PartialEq)]
+pub struct Sensor {
+    pub setup: Setup,
+    pub sample: Sample,
+}
+
+#[repr(C)]
+#[derive(Clone, Copy, Debug, Default, PartialEq)]
+pub struct Counters {
+    pub good: u16,
+    pub bad: u16,
+    pub exceptions: u16,
+}
+
+#[repr(C)]
+#[derive(Clone, Copy, Debug, Default, PartialEq)]
+pub struct Sonde {
+    pub address: u8,
+    pub sensors: [Sensor; 4],
+    pub counters: Counters,
+}
+
+/// What fresh, power-up and measure hand back.
+#[repr(C)]
+#[derive(Clone, Copy, Debug)]
+pub struct Made {
+    pub number: u8,
+    pub sonde: Sonde,
+}
+
+/// What a frame hands back.
+#[repr(C)]
+#[derive(Clone, Copy, Debug)]
+pub struct Frame {
+    pub number: u8,
+    pub length: u16,
+    pub sonde: Sonde,
+}
+
+/// What an audit hands back.
+#[repr(C)]
+#[derive(Clone, Copy, Debug)]
+pub struct Audit {
+    pub number: u8,
+    pub entries: u16,
+}
+
+extern "C" {
+    pub fn sonde_fresh(address: u8) -> Made;
+    pub fn sonde_begin(sonde: Sonde, volume: *mut u16, words: usize) -> u8;
+    pub fn sonde_power_up(address: u8, volume: *const u16, words: usize) -> Made;
+    pub fn sonde_measure(sonde: Sonde, sensor: u8, present: bool, first: f32, second: f32) -> Made;
+    pub fn sonde_frame(
+        sonde: Sonde,
+        frame: *const u8,
+        frame_len: usize,
+        reply: *mut u8,
+        reply_len: usize,
+        volume: *mut u16,
+        words: usize,
+        clock: u32,
+    ) -> Frame;
+    pub fn sonde_audit(sonde: Sonde, volume: *const u16, words: usize) -> Audit;
+}

@@ -1,0 +1,207 @@
+//! The register service of a water-quality sonde, for hosts in Rust: a safe face over the proved library's C interface.
+//!
+//! The host owns the [`Sonde`] and lends the volume (the words of the calibration journal) and the reply buffer. No call keeps
+//! anything, allocates or blocks.
+//!
+//! ```
+//! use sonde::{Sonde, REPLY_BYTES};
+//!
+//! let mut volume = vec![0; 112]; // a journal of two calibrations
+//! let mut sonde = Sonde::fresh(1)?;
+//! sonde.begin(&mut volume)?;
+//! sonde.measure(1, Some((1000.0, 21.5)))?; // conductivity and temperature
+//!
+//! // A technician reads the map's version: function 3, register 0, one register.
+//! let mut buffer = [0; REPLY_BYTES];
+//! let reply = sonde.frame(&[1, 3, 0, 0, 0, 1, 0x84, 0x0A], &mut buffer, &mut volume, 0)?;
+//! assert_eq!(reply, [1, 3, 2, 0, 3, 0xF8, 0x45]);
+//!
+//! // After a power cut the journal gives the calibration back.
+//! let after = Sonde::power_up(1, &volume)?;
+//! assert_eq!(after.audit(&volume), Ok(0));
+//! # Ok::<(), sonde::Error>(())
+//! ```
+
+use std::fmt;
+
+pub mod ffi;
+
+/// The least reply buffer; a reply is never longer.
+pub const REPLY_BYTES: usize = 256;
+/// The least volume: a journal of one calibration.
+pub const LEAST_WORDS: usize = 88;
+/// Words beyond these are never used: a journal of 1000 calibrations.
+pub const MOST_WORDS: usize = 24064;
+
+/// Why a call was refused; the value is the number of document 01. A call that is refused changes nothing.
+///
+/// ```
+/// use sonde::{Error, Sonde};
+///
+/// assert_eq!(Sonde::fresh(248).unwrap_err(), Error::BadAddress);
+/// assert_eq!(Error::BadAddress as u8, 1);
+/// ```
+#[derive(Clone, Copy, Debug, PartialEq, Eq, Hash)]
+#[repr(u8)]
+pub enum Error {
+    /// Fresh, power-up: the address isn't 1..247.
+    BadAddress = 1,
+    /// Begin: fewer than [`LEAST_WORDS`] words.
+    ShortVolume = 2,
+    /// Frame: the reply buffer has fewer than [`REPLY_BYTES`] bytes.
+    ShortReply = 3,
+    /// The volume is invalid, or the calibrations in force aren't the volume's, bit for bit.
+    Invalid = 4,
+    /// Measure: the sensor isn't 1..4.
+    NoSensor = 5,
+    /// Measure: a raw value that is read isn't finite.
+    NotFinite = 6,
+}
+
+impl fmt::Display for Error {
+    fn fmt(&self, f: &mut fmt::Formatter) -> fmt::Result {
+        f.write_str(match self {
+            Error::BadAddress => "the address is not 1 to 247",
+            Error::ShortVolume => "the volume has fewer than 88 words",
+            Error::ShortReply => "the reply buffer has fewer than 256 bytes",
+            Error::Invalid => "the volume is damaged, or is not the one of this sonde",
+            Error::NoSensor => "the sensor is not 1 to 4",
+            Error::NotFinite => "a raw value is not finite",
+        })
+    }
+}
+
+impl std::error::Error for Error {}
+
+/// What a number says: done, or why not.
+fn done(number: u8) -> Result<(), Error> {
+    use Error::*;
+    match [BadAddress, ShortVolume, ShortReply, Invalid, NoSensor, NotFinite]
+        .into_iter()
+        .find(|e| *e as u8 == number)
+    {
+        None => Ok(()),
+        Some(error) => Err(error),
+    }
+}
+
+/// One sonde: four sensors, their calibration and the message counters.
+#[derive(Clone, Debug)]
+pub struct Sonde(ffi::Sonde);
+
+impl Sonde {
+    /// A sonde as it leaves the works.
+    pub fn fresh(address: u8) -> Result<Sonde, Error> {
+        // SAFETY: a call by value alone.
+        let made = unsafe { ffi::sonde_fresh(address) };
+        done(made.number).map(|()| Sonde(made.sonde))
+    }
+
+    /// Begins a journal in a volume, with the calibrations in force as its opening. Words from 64 on stay as they are.
+    ///
+    /// ```
+    /// use sonde::{Error, Sonde};
+    ///
+    /// let sonde = Sonde::fresh(1)?;
+    /// assert_eq!(sonde.begin(&mut [0; 87]), Err(Error::ShortVolume));
+    /// assert_eq!(sonde.begin(&mut [0; 88]), Ok(()));
+    /// # Ok::<(), Error>(())
+    /// ```
+    pub fn begin(&self, volume: &mut [u16]) -> Result<(), Error> {
+        // SAFETY: the slice is valid for its length and lent for the call.
+        done(unsafe { ffi::sonde_begin(self.0, volume.as_mut_ptr(), volume.len()) })
+    }
+
+    /// The sonde after a power cut: the calibrations that the volume's journal gives, all else as fresh.
+    ///
+    /// ```
+    /// use sonde::{Error, Sonde};
+    ///
+    /// assert_eq!(Sonde::power_up(1, &[0xFFFF; 88]).unwrap_err(), Error::Invalid);
+    /// ```
+    pub fn power_up(address: u8, volume: &[u16]) -> Result<Sonde, Error> {
+        // SAFETY: the slice is valid for its length and lent for the call.
+        let made = unsafe { ffi::sonde_power_up(address, volume.as_ptr(), volume.len()) };
+        done(made.number).map(|()| Sonde(made.sonde))
+    }
+
+    /// A measurement of sensor 1 to 4: its two raw values, or `None` for a sensor that isn't present. The second is read for sensor 1
+    /// alone, as its temperature.
+    ///
+    /// ```
+    /// use sonde::{Error, Sonde};
+    ///
+    /// let mut sonde = Sonde::fresh(1)?;
+    /// assert_eq!(sonde.measure(2, Some((8.1, 0.0))), Ok(()));
+    /// assert_eq!(sonde.measure(2, Some((f32::NAN, 0.0))), Err(Error::NotFinite));
+    /// assert_eq!(sonde.measure(2, None), Ok(()));
+    /// assert_eq!(sonde.measure(5, None), Err(Error::NoSensor));
+    /// # Ok::<(), Error>(())
+    /// ```
+    pub fn measure(&mut self, sensor: u8, raws: Option<(f32, f32)>) -> Result<(), Error> {
+        let (first, second) = raws.unwrap_or_default();
+        // SAFETY: a call by value alone.
+        let made = unsafe { ffi::sonde_measure(self.0, sensor, raws.is_some(), first, second) };
+        self.0 = made.sonde;
+        done(made.number)
+    }
+
+    /// One Modbus RTU frame, whole and with its checksum, at this clock (whole seconds). Hands back the reply to send, empty for none.
+    /// The volume changes by an accepted calibration alone: write it to safe storage before the reply is sent.
+    ///
+    /// ```
+    /// use sonde::{Error, Sonde, REPLY_BYTES};
+    ///
+    /// let mut volume = [0; 88];
+    /// let mut sonde = Sonde::fresh(1)?;
+    /// sonde.begin(&mut volume)?;
+    /// let mut buffer = [0; REPLY_BYTES];
+    ///
+    /// // A register that isn't in the map is answered by exception 2.
+    /// let reply = sonde.frame(&[1, 3, 0x25, 0, 0, 1, 0x8F, 0x06], &mut buffer, &mut volume, 0)?;
+    /// assert_eq!(reply, [1, 0x83, 2, 0xC0, 0xF1]);
+    ///
+    /// // A frame with a wrong checksum is counted and gets no reply.
+    /// assert!(sonde.frame(&[1, 3, 0, 0, 0, 1, 0, 0], &mut buffer, &mut volume, 0)?.is_empty());
+    ///
+    /// let short = sonde.frame(&[1, 3, 0, 0, 0, 1, 0x84, 0x0A], &mut buffer[1..], &mut volume, 0);
+    /// assert_eq!(short, Err(Error::ShortReply));
+    /// # Ok::<(), Error>(())
+    /// ```
+    pub fn frame<'a>(&mut self, frame: &[u8], reply: &'a mut [u8], volume: &mut [u16], clock: u32) -> Result<&'a [u8], Error> {
+        // SAFETY: the slices are valid for their lengths, lent for the call, and can't overlap.
+        let answer = unsafe {
+            ffi::sonde_frame(
+                self.0,
+                frame.as_ptr(),
+                frame.len(),
+                reply.as_mut_ptr(),
+                reply.len(),
+                volume.as_mut_ptr(),
+                volume.len(),
+                clock,
+            )
+        };
+        self.0 = answer.sonde;
+        done(answer.number).map(|()| &reply[..answer.length.into()])
+    }
+
+    /// Whether the sonde and its volume are valid and agree: the entries in use.
+    ///
+    /// ```
+    /// use sonde::{Error, Sonde};
+    ///
+    /// let mut volume = [0; 88];
+    /// let sonde = Sonde::fresh(1)?;
+    /// sonde.begin(&mut volume)?;
+    /// assert_eq!(sonde.audit(&volume), Ok(0));
+    /// volume[20] ^= 1; // one bit of the opening
+    /// assert_eq!(sonde.audit(&volume), Err(Error::Invalid));
+    /// # Ok::<(), Error>(())
+    /// ```
+    pub fn audit(&self, volume: &[u16]) -> Result<u16, Error> {
+        // SAFETY: the slice is valid for its length and lent for the call.
+        let audit = unsafe { ffi::sonde_audit(self.0, volume.as_ptr(), volume.len()) };
+        done(audit.number).map(|()| audit.entries)
+    }
+}
