@@ -1,6 +1,7 @@
 // The map of registers: one table of fields, and the field that a register belongs to.
 ghost use mathlib.Core.Path.{_≡_};
 ghost use Rattle.fields.specs.Fields.{owns, holds, fieldAt, found, allFound, whole};
+ghost use Rattle.fields.specs.Map.{parameterEnd, sensorMap};
 
 pub mod rows; // the table
 
@@ -50,9 +51,10 @@ pub fn field_at(register: u16) -> Found
 {
     let owner = register / 100;
     let offset = register % 100;
+    let table = FIELDS;
     let mut i = 0;
     while i < 40 {
-        let f = FIELDS[i];
+        let f = table[i];
         if held(f, owner, offset) {
             return Found::Row(f);
         }
@@ -61,14 +63,38 @@ pub fn field_at(register: u16) -> Found
     Found::Absent
 }
 
-// Whether a register exists.
+// The offset of the last register of a sensor's parameters.
+fn parameter_end(sensor: u16) -> u16
+    ensures { λ r. ⌜ r ≡ parameterEnd sensor ⌝ }
+{
+    match sensor {
+        1 => 53,
+        3 => 45,
+        _ => 37,
+    }
+}
+
+// Whether a sensor has a register at this offset, range by range.
+fn on_sensor(sensor: u16, offset: u16) -> bool
+    ensures { λ r. ⌜ r ≡ sensorMap sensor offset ⌝ }
+{
+    let level = sensor == 3;
+    let head = (offset <= 7) & !(level & (offset == 6));
+    let pair = (10 <= offset) & (offset <= 13);
+    let third = level & ((14 <= offset) & (offset <= 15));
+    let points = !level & ((16 <= offset) & (offset <= 23));
+    let parameters = (30 <= offset) & (offset <= parameter_end(sensor));
+    head | pair | third | points | parameters
+}
+
+// Whether a register exists. The map's ranges say so, with no search through the table.
 pub fn exists(register: u16) -> bool
     ensures { λ r. ⌜ r ≡ found (fieldAt register) ⌝ }
 {
-    match field_at(register) {
-        Found::Row(_) => true,
-        Found::Absent => false,
+    if register < 100 {
+        return register <= 8;
     }
+    (register < 500) & on_sensor(register / 100, register % 100)
 }
 
 // Whether `count` registers from `start` on all exist; none past 0xFFFF does.

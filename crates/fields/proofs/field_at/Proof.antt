@@ -10,10 +10,10 @@ use Rattle.fields.proofs.field_at.Statement.{statement}
 use Rattle.fields.proofs.field_at.Tie as tie
 
 abbrev Inv-loop : tie.InvT-loop
-Inv-loop register owner offset i₀ i = (i ≤ 40) × (fieldAt register ≡ findIn (drop i fields) (register / 100) (register % 100))
+Inv-loop register owner offset table i₀ i = (i ≤ 40) × (fieldAt register ≡ findIn (drop i fields) (register / 100) (register % 100))
 
 abbrev μ-loop : tie.MeasureT-loop
-μ-loop register owner offset i₀ i = 40 - i
+μ-loop register owner offset table i₀ i = 40 - i
 
 loop-holds : tie.Need-loop-holds Inv-loop μ-loop
 unfolding fieldAt
