@@ -1,0 +1,321 @@
+//! Modbus RTU frames: how one is judged, what a write does, and the replies.
+
+use crate::calibration::{candidate, listed_method, within_limits, Coefficients, DIRECT, SENSORS};
+use crate::crc::crc;
+use crate::floats::{join, split};
+use crate::map::{locate, Access, Field, Place, ENTER, LEAVE, LEVEL_IDS, PARAMETERS, UPDATE};
+use crate::readings::reading;
+use crate::state::{Settings, Sonde};
+
+pub const FRAME_LEAST: usize = 4;
+pub const FRAME_MOST: usize = 256;
+pub const BROADCAST: u8 = 0;
+
+pub const READ: u8 = 3;
+pub const WRITE_ONE: u8 = 6;
+pub const WRITE_MANY: u8 = 16;
+pub const MASK: u8 = 22;
+
+/// Exception codes, in the order in which they are tried.
+pub const ILLEGAL_FUNCTION: u8 = 1;
+pub const ILLEGAL_SHAPE: u8 = 3;
+pub const ABSENT: u8 = 2;
+pub const NOT_ONE_FIELD: u8 = 0x80;
+pub const READ_ONLY: u8 = 0xC2;
+pub const NOT_CALIBRATING: u8 = 0x92;
+pub const UNLISTED: u8 = 0x84;
+pub const OUT_OF_LIMITS: u8 = 0x97;
+pub const JOURNAL_FULL: u8 = 0xC0;
+
+/// What becomes of a frame.
+#[derive(Clone, Copy, Debug)]
+pub enum Verdict {
+    /// Too short, too long or a wrong checksum.
+    Bad,
+    /// Another's address.
+    Foreign,
+    /// A read at address 0: counted, nothing else.
+    Ignored,
+    Refused(u8),
+    Read {
+        start: u16,
+        count: u16,
+    },
+    Write {
+        sensor: usize,
+        change: Change,
+    },
+}
+
+/// What an accepted write does to its sensor's settings.
+#[derive(Clone, Copy, Debug)]
+pub enum Change {
+    Set(Field, u32),
+    Enter,
+    Leave,
+    Update(Coefficients),
+}
+
+/// Judges a frame by the settings as they are; `full` is whether the journal has no room.
+pub fn judge(address: u8, settings: &[Settings; SENSORS], full: bool, frame: &[u8]) -> Verdict {
+    if !(FRAME_LEAST..=FRAME_MOST).contains(&frame.len()) {
+        return Verdict::Bad;
+    }
+    let (body, checksum) = frame.split_at(frame.len() - 2);
+    if crc(body).to_le_bytes() != checksum {
+        return Verdict::Bad;
+    }
+    let (to, function) = (body[0], body[1]);
+    if to != BROADCAST && to != address {
+        return Verdict::Foreign;
+    }
+    if to == BROADCAST && function == READ {
+        return Verdict::Ignored;
+    }
+    let judged = match function {
+        READ => judge_read(body),
+        WRITE_ONE | WRITE_MANY | MASK => judge_write(settings, full, body),
+        _ => Err(ILLEGAL_FUNCTION),
+    };
+    judged.unwrap_or_else(Verdict::Refused)
+}
+
+/// A big-endian word of the body.
+fn word(body: &[u8], at: usize) -> u16 {
+    u16::from_be_bytes([body[at], body[at + 1]])
+}
+
+fn judge_read(body: &[u8]) -> Result<Verdict, u8> {
+    if body.len() != 6 {
+        return Err(ILLEGAL_SHAPE);
+    }
+    let (start, count) = (word(body, 2), word(body, 4));
+    if !(1..=125).contains(&count) {
+        return Err(ILLEGAL_SHAPE);
+    }
+    all_present(start, count)?;
+    Ok(Verdict::Read { start, count })
+}
+
+fn judge_write(settings: &[Settings; SENSORS], full: bool, body: &[u8]) -> Result<Verdict, u8> {
+    let count = write_count(body)?;
+    let place = writable(word(body, 2), count)?;
+    let sensor = place.sensor;
+    let value = match body[1] {
+        WRITE_ONE => u32::from(word(body, 4)),
+        MASK => u32::from(masked(settings[sensor].word(place.field), word(body, 4), word(body, 6))),
+        _ if count == 1 => u32::from(word(body, 7)),
+        _ => join(word(body, 7), word(body, 9)),
+    };
+    let change = settings[sensor].admit(place, value, full)?;
+    Ok(Verdict::Write { sensor, change })
+}
+
+/// How many registers a write names, if its shape is right.
+fn write_count(body: &[u8]) -> Result<u16, u8> {
+    let shaped = match body[1] {
+        WRITE_ONE if body.len() == 6 => Some(1),
+        MASK if body.len() == 8 => Some(1),
+        WRITE_MANY if body.len() >= 7 => Some(word(body, 4)).filter(|&count| {
+            let bytes = 2 * usize::from(count);
+            (1..=123).contains(&count) && usize::from(body[6]) == bytes && body.len() == 7 + bytes
+        }),
+        _ => None,
+    };
+    shaped.ok_or(ILLEGAL_SHAPE)
+}
+
+fn all_present(start: u16, count: u16) -> Result<(), u8> {
+    let present = (0..count).all(|i| start.checked_add(i).is_some_and(|register| locate(register).is_some()));
+    present.then_some(()).ok_or(ABSENT)
+}
+
+/// The one whole field that is written, if it may be written at all.
+fn writable(start: u16, count: u16) -> Result<Place, u8> {
+    all_present(start, count)?;
+    let place = locate(start).ok_or(ABSENT)?;
+    if place.start != start || place.field.words() != count {
+        return Err(NOT_ONE_FIELD);
+    }
+    if place.field.access(place.sensor) == Access::ReadOnly {
+        return Err(READ_ONLY);
+    }
+    Ok(place)
+}
+
+fn masked(old: u16, and: u16, or: u16) -> u16 {
+    old & and | or & !and
+}
+
+impl Settings {
+    /// What a read shows of a writable field.
+    pub fn show(&self, field: Field) -> u32 {
+        match field {
+            Field::Next => self.next,
+            Field::Coefficient(i) if self.calibrating => self.trial[i].to_bits(),
+            Field::Coefficient(i) => self.active.coefficients[i].to_bits(),
+            Field::Point(i) => self.points[i].to_bits(),
+            Field::Sentinel(i) => self.sentinels[i].to_bits(),
+            _ => u32::from(self.word(field)),
+        }
+    }
+
+    /// What a read shows of a writable field of one word.
+    fn word(&self, field: Field) -> u16 {
+        match field {
+            Field::Command => u16::from(self.calibrating),
+            Field::Method => self.method,
+            Field::Units(i) => self.units[i],
+            _ => self.level_id,
+        }
+    }
+
+    /// The change that a value written to a writable field makes, or the code that refuses it.
+    fn admit(&self, place: Place, value: u32, full: bool) -> Result<Change, u8> {
+        if place.field == Field::Command {
+            return self.admit_command(place.sensor, value as u16, full);
+        }
+        if place.field.access(place.sensor) == Access::Calibrating && !self.calibrating {
+            return Err(NOT_CALIBRATING);
+        }
+        let word = value as u16;
+        let listed = match place.field {
+            Field::Next => true,
+            Field::Method => listed_method(place.sensor, word),
+            Field::Units(i) => PARAMETERS[place.sensor][i].units.contains(&word),
+            Field::Id(_) => LEVEL_IDS.contains(&word),
+            _ => f32::from_bits(value).is_finite(),
+        };
+        listed.then_some(Change::Set(place.field, value)).ok_or(UNLISTED)
+    }
+
+    fn admit_command(&self, sensor: usize, command: u16, full: bool) -> Result<Change, u8> {
+        match command {
+            ENTER => Ok(Change::Enter),
+            LEAVE => Ok(Change::Leave),
+            UPDATE if !self.calibrating => Err(NOT_CALIBRATING),
+            UPDATE => {
+                let candidate = candidate(self.method, &self.trial, &self.points);
+                match (within_limits(sensor, &candidate), full) {
+                    (false, _) => Err(OUT_OF_LIMITS),
+                    (true, true) => Err(JOURNAL_FULL),
+                    (true, false) => Ok(Change::Update(candidate)),
+                }
+            }
+            _ => Err(UNLISTED),
+        }
+    }
+
+    /// Carries out an accepted write.
+    pub fn apply(&mut self, change: Change, clock: u32) {
+        match change {
+            Change::Set(field, value) => self.set(field, value),
+            Change::Enter if !self.calibrating => self.switch(true),
+            Change::Leave if self.calibrating => self.switch(false),
+            Change::Enter | Change::Leave => {}
+            Change::Update(candidate) => {
+                self.active.coefficients = candidate;
+                self.active.time = clock;
+                self.trial = candidate;
+                self.next = 0;
+            }
+        }
+    }
+
+    fn switch(&mut self, calibrating: bool) {
+        self.calibrating = calibrating;
+        self.trial = self.active.coefficients;
+        self.method = DIRECT;
+        self.points = [0.0; 4];
+    }
+
+    fn set(&mut self, field: Field, value: u32) {
+        match field {
+            Field::Next => self.next = value,
+            Field::Method => self.method = value as u16,
+            Field::Coefficient(i) => self.trial[i] = f32::from_bits(value),
+            Field::Point(i) => self.points[i] = f32::from_bits(value),
+            Field::Units(i) => self.units[i] = value as u16,
+            Field::Sentinel(i) => self.sentinels[i] = f32::from_bits(value),
+            _ => self.level_id = value as u16,
+        }
+    }
+}
+
+/// What a read looks at.
+pub struct View<'a> {
+    pub sonde: &'a Sonde,
+    pub clock: u32,
+    pub capacity: usize,
+    pub in_use: usize,
+}
+
+impl View<'_> {
+    fn show(&self, place: Place) -> u32 {
+        let Sonde {
+            settings,
+            samples,
+            counters,
+            ..
+        } = self.sonde;
+        let sensor = place.sensor;
+        let read = |parameter| reading(sensor, parameter, &settings[sensor], &samples[sensor]);
+        match place.field {
+            Field::Version => 3,
+            Field::Device => 1,
+            Field::Clock => self.clock,
+            Field::Good => u32::from(counters.good),
+            Field::Bad => u32::from(counters.bad),
+            Field::Exceptions => u32::from(counters.exceptions),
+            Field::Capacity => self.capacity as u32,
+            Field::InUse => self.in_use as u32,
+            Field::Sensor => sensor as u32 + 1,
+            Field::Last => settings[sensor].active.time,
+            Field::Parameters => PARAMETERS[sensor].len() as u32,
+            Field::Value(i) => read(i).value.to_bits(),
+            Field::Quality(i) => u32::from(read(i).quality),
+            Field::Available(i) => u32::from(PARAMETERS[sensor][i].available),
+            Field::Id(i) if place.field.access(sensor) == Access::ReadOnly => u32::from(PARAMETERS[sensor][i].id),
+            field => settings[sensor].show(field),
+        }
+    }
+
+    /// The reply to a read of registers that are all present; its length. Goes field by field, so that a reading is worked out once.
+    pub fn reply_read(&self, start: u16, count: u16, reply: &mut [u8]) -> u16 {
+        reply[0] = self.sonde.address;
+        reply[1] = READ;
+        reply[2] = 2 * count as u8;
+        let end = start + count;
+        let mut register = start;
+        while let Some(place) = locate(register).filter(|_| register < end) {
+            let words = split(self.show(place));
+            let field_end = place.start + place.field.words();
+            while register < end.min(field_end) {
+                let word = words[2 - usize::from(field_end - register)];
+                let at = 3 + 2 * usize::from(register - start);
+                reply[at..at + 2].copy_from_slice(&word.to_be_bytes());
+                register += 1;
+            }
+        }
+        seal(reply, 3 + 2 * usize::from(count))
+    }
+}
+
+/// The reply to an accepted write: 16 answers with start and count, 6 and 22 echo the request.
+pub fn reply_write(frame: &[u8], reply: &mut [u8]) -> u16 {
+    let body = if frame[1] == WRITE_MANY { 6 } else { frame.len() - 2 };
+    reply[..body].copy_from_slice(&frame[..body]);
+    seal(reply, body)
+}
+
+pub fn reply_exception(address: u8, function: u8, code: u8, reply: &mut [u8]) -> u16 {
+    reply[..3].copy_from_slice(&[address, function | 0x80, code]);
+    seal(reply, 3)
+}
+
+/// Puts the checksum after the body, low byte first; gives the reply's length.
+fn seal(reply: &mut [u8], body: usize) -> u16 {
+    let checksum = crc(&reply[..body]).to_le_bytes();
+    reply[body..body + 2].copy_from_slice(&checksum);
+    body as u16 + 2
+}
