@@ -1,0 +1,113 @@
+//! Prints how long the proved library takes beside the second implementation and libmodbus, and how many instructions.
+//!
+//! Times are the least of several rounds in which the sides take turns, in one run; the ratio is what counts. Instructions are counted by
+//! `valgrind --tool=callgrind`, which this program starts on itself: a run with calls less a run without them.
+
+mod rows;
+mod sides;
+
+use rows::{rows, Row, SUMMED};
+use sides::{side, Side, NAMES};
+use std::process::Command;
+use std::time::Instant;
+
+const ROUNDS: usize = 15;
+const ROUND_NS: f64 = 2e6;
+
+/// Nanoseconds of a call, side by side.
+fn times(row: &Row) -> [Option<f64>; 3] {
+    let mut sides: Vec<Option<Box<dyn Side>>> = NAMES.iter().map(|name| taking_part(row, name)).collect();
+    for side in sides.iter_mut().flatten() {
+        row.prepare(side.as_mut());
+    }
+    let mut least = [None; 3];
+    for _ in 0..ROUNDS {
+        for (least, side) in least.iter_mut().zip(&mut sides) {
+            if let Some(side) = side {
+                let calls = (ROUND_NS / least.unwrap_or(20_000.0)).ceil() as usize;
+                let start = Instant::now();
+                row.repeat(side.as_mut(), calls);
+                let time = start.elapsed().as_nanos() as f64 / calls as f64;
+                *least = Some(least.map_or(time, |least: f64| least.min(time)));
+            }
+        }
+    }
+    least
+}
+
+fn taking_part(row: &Row, name: &str) -> Option<Box<dyn Side>> {
+    side(name).filter(|_| name != "libmodbus" || row.libmodbus)
+}
+
+/// Calls for a count of instructions.
+const COUNTED: usize = 64;
+
+/// Instructions of a call; `None` where the side doesn't take part or valgrind isn't installed.
+fn instructions(index: usize, row: &Row, name: &str) -> Option<f64> {
+    taking_part(row, name)?;
+    let count = |calls: usize| -> Option<f64> {
+        let program = std::env::current_exe().ok()?;
+        let output = Command::new("valgrind")
+            .args(["--tool=callgrind", "--callgrind-out-file=/dev/null"])
+            .arg(program)
+            .args([index.to_string(), name.to_string(), calls.to_string()])
+            .output()
+            .ok()?;
+        let text = String::from_utf8_lossy(&output.stderr);
+        let line = text.lines().find(|line| line.contains("Collected :"))?;
+        line.split_whitespace().last()?.parse().ok()
+    };
+    Some((count(COUNTED)? - count(0)?) / COUNTED as f64)
+}
+
+/// The counted run: one row of one side, so many calls.
+fn counted(arguments: &[String]) {
+    let [index, name, calls] = arguments else {
+        eprintln!("bench takes no arguments");
+        std::process::exit(2);
+    };
+    let number = |text: &String| text.parse::<usize>().expect("a number");
+    let rows = rows();
+    let row = &rows[number(index)];
+    let mut side = side(name).expect("a side");
+    row.prepare(side.as_mut());
+    row.repeat(side.as_mut(), number(calls));
+}
+
+type Sides = [Option<f64>; 3];
+
+fn print(name: &str, times: Sides, counts: Sides, unit: f64) {
+    let cell = |value: Option<f64>, digits: usize| value.map_or("–".into(), |value| format!("{value:.digits$}"));
+    let ratio = |values: Sides, other: usize| cell(values[0].zip(values[other]).map(|(own, other)| own / other), 2);
+    let mut cells = vec![name.to_string()];
+    cells.extend(times.map(|time| cell(time.map(|time| time / unit), usize::from(unit != 1.0) * 2)));
+    cells.extend([ratio(times, 1), ratio(times, 2)]);
+    cells.extend(counts.map(|count| cell(count.map(|count| count / unit), usize::from(unit != 1.0))));
+    cells.push(ratio(counts, 1));
+    println!("| {} |", cells.join(" | "));
+}
+
+fn main() {
+    let arguments: Vec<String> = std::env::args().skip(1).collect();
+    if !arguments.is_empty() {
+        return counted(&arguments);
+    }
+    if side("libmodbus").is_none() {
+        println!("(libmodbus isn't installed: its columns are empty)");
+    }
+    println!("| work | library ns | twin ns | libmodbus ns | to twin | to libmodbus | library instr. | twin instr. | libmodbus instr. | to twin |");
+    println!("|---|---|---|---|---|---|---|---|---|---|");
+    let mut long = None;
+    let mut short = None;
+    for (index, row) in rows().iter().enumerate() {
+        let times = times(row);
+        let counts: Sides = std::array::from_fn(|side| instructions(index, row, NAMES[side]));
+        print(&row.name, times, counts, 1.0);
+        let (is_long, is_short) = rows::is_checksum(row);
+        long = if is_long { Some((times, counts)) } else { long };
+        short = if is_short { Some((times, counts)) } else { short };
+    }
+    let (long, short) = (long.expect("a row"), short.expect("a row"));
+    let less = |long: Sides, short: Sides| -> Sides { std::array::from_fn(|i| Some(long[i]? - short[i]?)) };
+    print("checksum, each byte", less(long.0, short.0), less(long.1, short.1), SUMMED);
+}

@@ -1,0 +1,131 @@
+//! What is measured, one row each.
+
+use crate::sides::Side;
+
+pub enum Work {
+    Frame(Vec<u8>),
+    /// Accepted calibrations, `UPDATES` to a journal.
+    Update,
+    Audit,
+}
+
+pub struct Row {
+    pub name: String,
+    /// Entries that the journal has when the row begins.
+    pub entries: usize,
+    pub work: Work,
+    /// Whether libmodbus can do it.
+    pub libmodbus: bool,
+}
+
+/// Calibrations before a journal is begun again.
+const UPDATES: usize = 16;
+
+pub fn framed(body: &[u8]) -> Vec<u8> {
+    [body, &twin::crc(body).to_le_bytes()].concat()
+}
+
+fn words(function: u8, first: u16, second: u16) -> Vec<u8> {
+    framed(&[&[1, function][..], &first.to_be_bytes(), &second.to_be_bytes()].concat())
+}
+
+fn row(name: impl Into<String>, entries: usize, work: Work, libmodbus: bool) -> Row {
+    Row {
+        name: name.into(),
+        entries,
+        work,
+        libmodbus,
+    }
+}
+
+/// A write of 123 registers whose checksum is wrong: 255 bytes, all but two of them summed.
+pub fn long_bad() -> Vec<u8> {
+    let mut frame = framed(&[&[1, 16, 0, 0, 0, 123, 246][..], &[0x5A; 246]].concat());
+    frame[254] ^= 0xFF;
+    frame
+}
+
+/// The same with one register: 11 bytes.
+pub fn short_bad() -> Vec<u8> {
+    let mut frame = framed(&[1, 16, 0, 0, 0, 1, 2, 0x5A, 0x5A]);
+    frame[10] ^= 0xFF;
+    frame
+}
+
+/// Bytes that `long_bad` sums and `short_bad` doesn't.
+pub const SUMMED: f64 = 244.0;
+
+const LONG: &str = "long bad frame";
+const SHORT: &str = "short bad frame";
+
+pub fn rows() -> Vec<Row> {
+    let mut rows = vec![
+        row("read of 1 register", 0, Work::Frame(words(3, 0, 1)), true),
+        row("read of 24 registers, the longest", 0, Work::Frame(words(3, 130, 24)), true),
+        row("read of 125 registers, code 2", 0, Work::Frame(words(3, 130, 125)), false),
+        row("write of one word", 0, Work::Frame(words(6, 133, 2)), true),
+        row(
+            "write of a float",
+            0,
+            Work::Frame(framed(&[1, 16, 0, 135, 0, 2, 4, 0x3F, 0x80, 0, 0])),
+            true,
+        ),
+        row("mask write", 0, Work::Frame(framed(&[1, 22, 0, 133, 0, 0, 0, 1])), true),
+        row("update, accepted", 0, Work::Update, false),
+        row("refused: absent register", 0, Work::Frame(words(3, 0x2500, 1)), true),
+        row("another's frame", 0, Work::Frame(framed(&[2, 3, 0, 0, 0, 1])), true),
+        row(SHORT, 0, Work::Frame(short_bad()), true),
+        row(LONG, 0, Work::Frame(long_bad()), true),
+    ];
+    for entries in [0, 1, 10, 100, 1000] {
+        rows.push(row(format!("audit, {entries} entries"), entries, Work::Audit, false));
+    }
+    for entries in [1, 10, 100, 1000] {
+        rows.push(row(
+            format!("read of 1 register, {entries} entries"),
+            entries,
+            Work::Frame(words(3, 0, 1)),
+            false,
+        ));
+    }
+    rows
+}
+
+/// The rows whose difference is the checksum of `SUMMED` bytes.
+pub fn is_checksum(row: &Row) -> (bool, bool) {
+    (row.name == LONG, row.name == SHORT)
+}
+
+impl Row {
+    /// A journal with the row's entries, on the four sensors in turn, and sensors in mode.
+    pub fn prepare(&self, side: &mut dyn Side) {
+        for sensor in 1..=4 {
+            side.frame(&words(6, 100 * sensor + 5, 0xE000));
+        }
+        for entry in 0..self.entries {
+            let sensor = entry as u16 % 4 + 1;
+            side.frame(&words(6, 100 * sensor + 5, 0xE001));
+        }
+    }
+
+    /// The work, so many times.
+    pub fn repeat(&self, side: &mut dyn Side, calls: usize) {
+        match &self.work {
+            Work::Frame(frame) => (0..calls).for_each(|_| {
+                std::hint::black_box(side.frame(std::hint::black_box(frame)));
+            }),
+            Work::Audit => (0..calls).for_each(|_| {
+                std::hint::black_box(side.audit());
+            }),
+            Work::Update => {
+                let update = words(6, 105, 0xE001);
+                for call in 0..calls {
+                    if call % UPDATES == 0 {
+                        side.begin();
+                    }
+                    std::hint::black_box(side.frame(&update));
+                }
+            }
+        }
+    }
+}

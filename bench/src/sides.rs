@@ -1,0 +1,142 @@
+//! Who answers: the proved library, the second implementation, libmodbus. Each keeps its own sonde and volume.
+
+use sonde::ffi;
+
+/// At this clock.
+const CLOCK: u32 = 1_700_000_000;
+
+pub trait Side {
+    /// A frame; the length of the reply.
+    fn frame(&mut self, frame: &[u8]) -> usize;
+    /// A journal without entries.
+    fn begin(&mut self);
+    /// The entries in use.
+    fn audit(&mut self) -> usize;
+}
+
+pub struct Library {
+    sonde: ffi::Sonde,
+    volume: Vec<u16>,
+    reply: [u8; sonde::REPLY_BYTES],
+}
+
+impl Library {
+    pub fn new() -> Library {
+        // SAFETY: a call by value alone.
+        let made = unsafe { ffi::sonde_fresh(1) };
+        let mut side = Library {
+            sonde: made.sonde,
+            volume: vec![0; sonde::MOST_WORDS],
+            reply: [0; sonde::REPLY_BYTES],
+        };
+        side.begin();
+        side
+    }
+}
+
+impl Side for Library {
+    fn frame(&mut self, frame: &[u8]) -> usize {
+        let (reply, volume) = (&mut self.reply, &mut self.volume);
+        // SAFETY: the slices are valid for their lengths and lent for the call.
+        let answer = unsafe {
+            ffi::sonde_frame(
+                self.sonde,
+                frame.as_ptr(),
+                frame.len(),
+                reply.as_mut_ptr(),
+                reply.len(),
+                volume.as_mut_ptr(),
+                volume.len(),
+                CLOCK,
+            )
+        };
+        self.sonde = answer.sonde;
+        assert_eq!(answer.number, 0);
+        answer.length.into()
+    }
+
+    fn begin(&mut self) {
+        // SAFETY: the slice is valid for its length and lent for the call.
+        let number = unsafe { ffi::sonde_begin(self.sonde, self.volume.as_mut_ptr(), self.volume.len()) };
+        assert_eq!(number, 0);
+    }
+
+    fn audit(&mut self) -> usize {
+        // SAFETY: the slice is valid for its length and lent for the call.
+        let audit = unsafe { ffi::sonde_audit(self.sonde, self.volume.as_ptr(), self.volume.len()) };
+        assert_eq!(audit.number, 0);
+        audit.entries.into()
+    }
+}
+
+pub struct Twin {
+    sonde: twin::Sonde,
+    volume: Vec<u16>,
+    reply: [u8; sonde::REPLY_BYTES],
+}
+
+impl Twin {
+    pub fn new() -> Twin {
+        let mut side = Twin {
+            sonde: twin::fresh(1).1,
+            volume: vec![0; sonde::MOST_WORDS],
+            reply: [0; sonde::REPLY_BYTES],
+        };
+        side.begin();
+        side
+    }
+}
+
+impl Side for Twin {
+    fn frame(&mut self, frame: &[u8]) -> usize {
+        let (number, length) = twin::frame(&mut self.sonde, frame, &mut self.reply, &mut self.volume, CLOCK);
+        assert_eq!(number, 0);
+        length.into()
+    }
+
+    fn begin(&mut self) {
+        assert_eq!(twin::begin(&self.sonde, &mut self.volume), 0);
+    }
+
+    fn audit(&mut self) -> usize {
+        let (number, entries) = twin::audit(&self.sonde, &self.volume);
+        assert_eq!(number, 0);
+        entries.into()
+    }
+}
+
+/// libmodbus' server on 500 registers in memory. It has no journal.
+#[cfg(libmodbus)]
+pub struct LibModbus;
+
+#[cfg(libmodbus)]
+extern "C" {
+    fn line_frame(frame: *const u8, length: usize) -> usize;
+}
+
+#[cfg(libmodbus)]
+impl Side for LibModbus {
+    fn frame(&mut self, frame: &[u8]) -> usize {
+        // SAFETY: the slice is valid for its length, and one thread calls.
+        unsafe { line_frame(frame.as_ptr(), frame.len()) }
+    }
+
+    fn begin(&mut self) {}
+
+    fn audit(&mut self) -> usize {
+        0
+    }
+}
+
+pub const NAMES: [&str; 3] = ["library", "twin", "libmodbus"];
+
+/// The side of a name; `None` for libmodbus where it isn't installed.
+pub fn side(name: &str) -> Option<Box<dyn Side>> {
+    match name {
+        "library" => Some(Box::new(Library::new())),
+        "twin" => Some(Box::new(Twin::new())),
+        #[cfg(libmodbus)]
+        "libmodbus" => Some(Box::new(LibModbus)),
+        _ => None,
+    }
+}
