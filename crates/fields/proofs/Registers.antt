@@ -1,21 +1,22 @@
 -- The field of a register: it is a row of the table, the registers that have one are those of the map, and the registers of a whole field are its own.
 -- Assumes nothing.
 use mathlib.Core.Path.{_≡_, refl, sym, ap, subst, _∙_}
-use mathlib.Core.Bool.{Bool, true, false, Bool·beq, cond, false≢true}
+use mathlib.Core.Bool.{Bool, true, false, Bool·beq, _&&_, not, cond, false≢true}
 use mathlib.Core.List.{List, [], _∷_}
 use Prim.Native.Nat.{ℕ, zero, suc, _+_, _-_, _/_, _%_, _<_, _≤_}
 use native.Mathlib.Nat.{add-zero, le-of-suc-le-suc, not-suc-le-zero}
 use native.Mathlib.Omega.{arith}
 use lib.Dec.{eqb, ltb}
-use lib.ListN.{length, getD}
-use borrow.Author.Tests.{eqb-true, eq-eqb, ltb-true, ltb-false, le-ltb}
+use lib.ListN.{length, getD, drop}
+use borrow.Author.Tests.{eqb-true, eq-eqb, ltb-true, ltb-false, le-ltb, not-true}
 use Rattle.floats.proofs.Bools.{both, beq-true}
 use Rattle.fields.specs.declared.Field.{Field}
 use Rattle.fields.specs.declared.Found.{Found}
 use Rattle.fields.specs.declared.Found.the-variants.{Row, Absent}
 use Rattle.fields.specs.Fields.{fields, owns, holds, findIn, fieldAt, found, allFound, wholeIn, whole}
 use Rattle.fields.specs.Map.{inMap}
-use Rattle.fields.proofs.Search.{noField, past}
+use Rattle.fields.specs.Rows.{firstRow}
+use Rattle.fields.proofs.Search.{noField, none, past}
 use Rattle.fields.proofs.Computed.{below, at-number}
 use Rattle.fields.proofs.Table.{rowAt, Shape, row-shape, Covered, held-parts, held-of, rows-apart}
 
@@ -97,6 +98,53 @@ map-exact r = go (ltb r 500) refl
     go : (b : Bool) → ltb r 500 ≡ b → found (fieldAt r) ≡ inMap r
     go true q = beq-true _ _ (at-number (λ r. Bool·beq (found (fieldAt r)) (inMap r)) 500 mapped r (ltb-true r 500 q))
     go false q = ap found (past r (ltb-false r 500 q)) ∙ sym (outside r (ltb-false r 500 q))
+
+-- ---- where the search begins
+
+-- none of the first k rows holds the register
+abbrev unheld : ℕ → List Field → ℕ → ℕ → Bool
+unheld zero fs owner offset = true
+unheld (suc k) [] owner offset = true
+unheld (suc k) (f ∷ fs) owner offset = not (holds f owner offset) && unheld k fs owner offset
+
+-- so the search may begin behind them
+skipped : (k : ℕ) (fs : List Field) (owner offset : ℕ) → unheld k fs owner offset ≡ true → findIn fs owner offset ≡ findIn (drop k fs) owner offset
+skipped zero fs owner offset e = refl
+skipped (suc k) [] owner offset e = refl
+skipped (suc k) (f ∷ fs) owner offset e =
+    let p = both (not (holds f owner offset)) (unheld k fs owner offset) e in
+    rw (not-true (holds f owner offset) (p .0)) (skipped k fs owner offset (p .1))
+
+blocks : below (λ r. unheld (firstRow (r / 100) (r % 100)) fields (r / 100) (r % 100)) 500 ≡ true
+unfolding firstRow holds owns
+blocks = refl
+
+pub begins : (r : ℕ) → fieldAt r ≡ findIn (drop (firstRow (r / 100) (r % 100)) fields) (r / 100) (r % 100)
+unfolding fieldAt
+begins r = go (ltb r 500) refl
+  where
+    first : ℕ
+    first = firstRow (r / 100) (r % 100)
+
+    go : (b : Bool) → ltb r 500 ≡ b → findIn fields (r / 100) (r % 100) ≡ findIn (drop first fields) (r / 100) (r % 100)
+    go true q =
+        skipped first fields (r / 100) (r % 100)
+        (at-number (λ r. unheld (firstRow (r / 100) (r % 100)) fields (r / 100) (r % 100)) 500 blocks r (ltb-true r 500 q))
+    go false q =
+        let o : 5 ≤ r / 100 = omega (arith, ltb-false r 500 q) in
+        none fields (r / 100) (r % 100) o ∙ sym (none (drop first fields) (r / 100) (r % 100) o)
+
+-- it begins inside the table
+pub first-inside : (owner offset : ℕ) → firstRow owner offset ≤ 40
+unfolding firstRow
+first-inside owner offset = go (eqb owner 0) (ltb offset 10) (ltb offset 30) (ltb offset 38)
+  where
+    go : (a b c d : Bool) → cond a 0 (cond b 8 (cond c 14 (cond d 21 27))) ≤ 40
+    go true b c d = omega arith
+    go false true c d = omega arith
+    go false false true d = omega arith
+    go false false false true = omega arith
+    go false false false false = omega arith
 
 -- ---- whole fields
 

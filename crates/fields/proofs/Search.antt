@@ -42,7 +42,8 @@ not-held f owner offset e = go (ltb offset (f .offset)) refl
     go true q = refl
     go false q = rw e
 
-none : (fs : List Field) (owner offset : ℕ) → 5 ≤ owner → findIn fs owner offset ≡ Absent
+-- so no row holds a register of any other owner
+pub none : (fs : List Field) (owner offset : ℕ) → 5 ≤ owner → findIn fs owner offset ≡ Absent
 none [] owner offset h = refl
 none (f ∷ fs) owner offset h = rw (not-held f owner offset (unowned f owner h)) (none fs owner offset h)
 

@@ -2,6 +2,7 @@
 ghost use mathlib.Core.Path.{_≡_};
 ghost use Rattle.fields.specs.Fields.{owns, holds, fieldAt, found, allFound, whole};
 ghost use Rattle.fields.specs.Map.{parameterEnd, sensorMap};
+ghost use Rattle.fields.specs.Rows.{firstRow};
 
 pub mod rows; // the table
 
@@ -45,6 +46,25 @@ fn held(f: Field, owner: u16, offset: u16) -> bool
     owned(f, owner) & (offset - f.offset < f.words)
 }
 
+// The row at which the search for a register begins: no row before it holds the register.
+fn first_row(owner: u16, offset: u16) -> usize
+    ensures { λ r. ⌜ r ≡ firstRow owner offset ⌝ }
+{
+    if owner == 0 {
+        return 0;
+    }
+    if offset < 10 {
+        return 8;
+    }
+    if offset < 30 {
+        return 14;
+    }
+    if offset < 38 {
+        return 21;
+    }
+    27
+}
+
 // The field that a register belongs to.
 pub fn field_at(register: u16) -> Found
     ensures { λ r. ⌜ r ≡ fieldAt register ⌝ }
@@ -52,7 +72,7 @@ pub fn field_at(register: u16) -> Found
     let owner = register / 100;
     let offset = register % 100;
     let table = FIELDS;
-    let mut i = 0;
+    let mut i = first_row(owner, offset);
     while i < 40 {
         let f = table[i];
         if held(f, owner, offset) {
