@@ -11,6 +11,7 @@ use Rattle.sensors.specs.Sensors.{parameterOf}
 use Rattle.sensors.specs.declared.Setup.{Setup}
 use Rattle.sensors.specs.declared.Sensor.{Sensor}
 use Rattle.readings.specs.Readings.{readingOf}
+use Rattle.readings.specs.declared.Reading.{Reading}
 use Rattle.registers.specs.declared.Device.{Device}
 
 -- "command (W, reads 1 with mode on, else 0)"
@@ -40,15 +41,18 @@ pointRegister p o =
 unfoldable pub shownId : ℕ → Setup → ℕ → ℕ
 shownId sensor s k = cond (eqb sensor 3 && eqb k 2) (s .level) (idOf sensor k)
 
+-- "+0 value", "+4 quality": what the registers of a reading show
+unfoldable pub readingRegister : Reading → ℕ → ℕ
+readingRegister r part = cond (eqb part 0) (highWord (r .value)) (cond (eqb part 1) (lowWord (r .value)) (r .quality))
+
 -- "+0 value, +2 id, +3 units (W), +4 quality, +5 sentinel (W, default 0.0), +7 available units"
 unfoldable pub parameterRegister : ℕ → Sensor → ℕ → ℕ → ℕ
 parameterRegister sensor s k part =
-    cond (eqb part 0) (highWord (readingOf sensor s k .value)) (cond (eqb part 1) (lowWord (readingOf sensor s k .value))
-    (cond (eqb part 2) (shownId sensor (s .setup) k)
+    cond (eqb part 2) (shownId sensor (s .setup) k)
     (cond (eqb part 3) (parameterOf (s .setup) k .units)
-    (cond (eqb part 4) (readingOf sensor s k .quality)
     (cond (eqb part 5) (highWord (parameterOf (s .setup) k .sentinel)) (cond (eqb part 6) (lowWord (parameterOf (s .setup) k .sentinel))
-    (availableUnits (idOf sensor k))))))))
+    (cond (eqb part 7) (availableUnits (idOf sensor k))
+    (readingRegister (readingOf sensor s k) part)))))
 
 -- "offsets: 0 sensor number; 1..2 last calibration; 3..4 next (W); 5 command ..; 6 method ..; 7 number of parameters"
 unfoldable pub headRegister : ℕ → Setup → ℕ → ℕ

@@ -1,9 +1,10 @@
 // What each register shows: the device's and the sensors'.
 ghost use mathlib.Core.Path.{_≡_};
 ghost use Prim.Native.Nat.{_/_, _%_};
-ghost use Rattle.registers.specs.Registers.{modeOf, shownCoefficients, coefficientRegister, pointRegister, shownId, parameterRegister, headRegister, sensorRegister, deviceRegister};
+ghost use Rattle.registers.specs.Registers.{modeOf, shownCoefficients, coefficientRegister, pointRegister, shownId, readingRegister, parameterRegister, headRegister, sensorRegister, deviceRegister};
 use calibration::coefficients::Coefficients;
 use calibration::methods::Points;
+use readings::Reading;
 use sensors::Sensor;
 use sensors::Setup;
 
@@ -98,30 +99,30 @@ fn shown_id(sensor: u16, setup: Setup, k: u16) -> u16
     parameters::parameter_id(sensor, k)
 }
 
-// One of the eight registers of parameter k.
+// The registers of a reading: 0 and 1 the value, 4 the quality.
+fn reading_register(r: Reading, part: u16) -> u16
+    ensures { λ x. ⌜ x ≡ readingRegister r part ⌝ }
+{
+    match part {
+        0 => floats::high_word(r.value),
+        1 => floats::low_word(r.value),
+        _ => r.quality,
+    }
+}
+
+// One of the eight registers of parameter k. The reading is worked out for its own registers alone.
 fn parameter_register(sensor: u16, s: Sensor, k: u16, part: u16) -> u16
     ensures { λ r. ⌜ r ≡ parameterRegister sensor s k part ⌝ }
 {
     let setup = s.setup;
     let p = setup.parameter(k);
     match part {
-        0 => {
-            let r = readings::read(sensor, s, k);
-            floats::high_word(r.value)
-        }
-        1 => {
-            let r = readings::read(sensor, s, k);
-            floats::low_word(r.value)
-        }
         2 => shown_id(sensor, setup, k),
         3 => p.units,
-        4 => {
-            let r = readings::read(sensor, s, k);
-            r.quality
-        }
         5 => floats::high_word(p.sentinel),
         6 => floats::low_word(p.sentinel),
-        _ => parameters::available_units(parameters::parameter_id(sensor, k)),
+        7 => parameters::available_units(parameters::parameter_id(sensor, k)),
+        _ => reading_register(readings::read(sensor, s, k), part),
     }
 }
 

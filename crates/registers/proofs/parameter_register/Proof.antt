@@ -5,58 +5,69 @@ use borrow.Author.Needs.{needs}
 use Rattle.registers.proofs.parameter_register.Statement.{statement}
 use Rattle.registers.proofs.parameter_register.Tie as tie
 
+parameter-requires : tie.Need-parameter-requires
+parameter-requires c κs = search needs
+
+shown-id-requires : tie.Need-shown-id-requires
+shown-id-requires c κs = search needs
+
+high-word-requires : tie.Need-high-word-requires
+high-word-requires c κs = search needs
+
+low-word-requires : tie.Need-low-word-requires
+low-word-requires c κs = search needs
+
+parameter-id-requires : tie.Need-parameter-id-requires
+parameter-id-requires c κs = search needs
+
+available-units-requires : tie.Need-available-units-requires
+available-units-requires c κs = search needs
+
+read-requires : tie.Need-read-requires
+read-requires c κs = search needs
+
+reading-register-requires : tie.Need-reading-register-requires
+reading-register-requires c κs = search needs
+
 returns : tie.Need-returns
 unfolding parameterRegister
-returns c = simp (c .before .before .match .keys1, ← c .before .read .ensures, ← c .high-word .ensures)
+returns c = simp (c .before .match .keys1, ← c .shown-id .ensures)
 
 returns-2 : tie.Need-returns-2
 unfolding parameterRegister
-returns-2 c = simp (c .before .before .match .keys2, ← c .before .read2 .ensures, ← c .low-word .ensures)
+returns-2 c = simp (← c .before .parameter .ensures, c .match .keys2)
 
 returns-3 : tie.Need-returns-3
 unfolding parameterRegister
-returns-3 c = simp (c .before .match .keys3, ← c .shown-id .ensures)
+returns-3 c = simp (← c .before .before .parameter .ensures, c .before .match .keys3, ← c .high-word .ensures)
 
 returns-4 : tie.Need-returns-4
 unfolding parameterRegister
-returns-4 c = simp (← c .before .parameter .ensures, c .match .keys4)
+returns-4 c = simp (← c .before .before .parameter .ensures, c .before .match .keys4, ← c .low-word .ensures)
 
 returns-5 : tie.Need-returns-5
 unfolding parameterRegister
-returns-5 c = simp (c .before .match .keys5, ← c .read3 .ensures)
+returns-5 c = simp (c .before .before .match .keys5, ← c .before .parameter-id .ensures, ← c .available-units .ensures)
 
 returns-6 : tie.Need-returns-6
 unfolding parameterRegister
-returns-6 c = simp (← c .before .before .parameter .ensures, c .before .match .keys6, ← c .high-word2 .ensures)
-
-returns-7 : tie.Need-returns-7
-unfolding parameterRegister
-returns-7 c = simp (← c .before .before .parameter .ensures, c .before .match .keys7, ← c .low-word2 .ensures)
-
-returns-8 : tie.Need-returns-8
-unfolding parameterRegister
-returns-8 c = simp (ne-eqb _ _ (c .before .before .match .rest .0 .0 .0 .0 .0 .0 .1), ne-eqb _ _ (c .before .before .match .rest .0 .0 .0 .0 .0 .1), ne-eqb _ _ (c .before .before .match .rest .0 .0 .0 .0 .1), ne-eqb _ _ (c .before .before .match .rest .0 .0 .0 .1), ne-eqb _ _ (c .before .before .match .rest .0 .0 .1), ne-eqb _ _ (c .before .before .match .rest .0 .1), ne-eqb _ _ (c .before .before .match .rest .1), ← c .before .parameter-id .ensures, ← c .available-units .ensures)
+returns-6 c = simp (ne-eqb _ _ (c .before .before .match .rest .0 .0 .0 .0 .1), ne-eqb _ _ (c .before .before .match .rest .0 .0 .0 .1), ne-eqb _ _ (c .before .before .match .rest .0 .0 .1), ne-eqb _ _ (c .before .before .match .rest .0 .1), ne-eqb _ _ (c .before .before .match .rest .1), ← c .before .read .ensures, ← c .reading-register .ensures)
 
 pub parameter-register-spec : {M : Type 1} → statement M
 parameter-register-spec =
     tie.close
     (tie.spec
-    (λ c κs. search needs)
-    (λ c κs. search needs)
-    (λ c κs. search needs)
-    (λ c κs. search needs)
-    (λ c κs. search needs)
-    (λ c κs. search needs)
-    (λ c κs. search needs)
-    (λ c κs. search needs)
-    (λ c κs. search needs)
-    (λ c κs. search needs)
-    (λ c κs. search needs)
+    parameter-requires
+    shown-id-requires
+    high-word-requires
+    low-word-requires
+    parameter-id-requires
+    available-units-requires
+    read-requires
+    reading-register-requires
     returns
     returns-2
     returns-3
     returns-4
     returns-5
-    returns-6
-    returns-7
-    returns-8)
+    returns-6)
