@@ -7,8 +7,8 @@ use std::os::unix::fs::OpenOptionsExt;
 use std::path::{Path, PathBuf};
 use std::time::Duration;
 
-/// How long a line may take none of a reply before the reply is dropped: a master has given up by then.
-const PATIENCE: Duration = Duration::from_secs(1);
+/// How long a line or a client may leave a reply before it is dropped: a master has given up by then.
+pub const PATIENCE: Duration = Duration::from_secs(1);
 
 pub struct Line {
     /// What a client opens.
@@ -65,10 +65,6 @@ impl Line {
 
     /// Sends a reply, and hands back whether the line took it all.
     pub fn send(&mut self, mut reply: &[u8], stop: &File) -> Result<bool, String> {
-        // A wire loses what nobody listens to, a pseudo-terminal keeps it: an old reply that a client left would be taken for this one.
-        if let Some(clients) = &self.clients {
-            sys::drop_input(clients).map_err(|e| self.failed(e))?;
-        }
         while !reply.is_empty() {
             match self.file.write(reply) {
                 Ok(length) => reply = &reply[length..],
@@ -82,6 +78,15 @@ impl Line {
             }
         }
         Ok(true)
+    }
+
+    /// Drops a reply that no client has read. A wire loses what nobody listens to, but a pseudo-terminal keeps it, and the next client would
+    /// take it for the reply to its own request.
+    pub fn forget(&self) -> Result<(), String> {
+        match &self.clients {
+            Some(clients) => sys::drop_input(clients).map_err(|e| self.failed(e)),
+            None => Ok(()),
+        }
     }
 
     fn failed(&self, error: io::Error) -> String {

@@ -1,36 +1,51 @@
 //! The loop: cut a frame, let the library answer it, keep the volume safe, send the reply.
 
 use crate::framing::{silence, Framer};
-use crate::line::Line;
+use crate::line::{Line, PATIENCE};
 use crate::options::Options;
 use crate::say;
 use crate::sensors::Sensors;
 use crate::sys::{self, Event};
 use crate::volume::VolumeFile;
 use sonde::{Sonde, REPLY_BYTES};
+use std::fs::File;
 use std::io::Write;
-use std::time::SystemTime;
+use std::time::{Duration, SystemTime};
 
 /// Serves until a signal stops it.
 pub fn serve(options: &Options) -> Result<(), String> {
     let stop = sys::stop_signals().map_err(|e| format!("signals can't be caught: {e}"))?;
     let sensors = Sensors::new(options.raws, options.raws_file.as_deref())?;
-    let mut line = Line::open(options.device.as_deref(), options.speed, options.parity)?;
-    let mut server = Server::new(options, sensors)?;
+    let line = Line::open(options.device.as_deref(), options.speed, options.parity)?;
+    let server = Server::new(options, sensors)?;
     announce(&line)?;
-    let silence = options.silence.unwrap_or(silence(options.speed));
+    exchange(server, line, &stop, options.silence.unwrap_or(silence(options.speed)))
+}
+
+/// Answers frame after frame until `stop` can be read.
+fn exchange(mut server: Server, mut line: Line, stop: &File, silence: Duration) -> Result<(), String> {
     let mut framer = Framer::default();
+    let mut replied = false;
     let mut buffer = [0; 512];
     loop {
-        match line.wait(&stop, (!framer.is_empty()).then_some(silence))? {
+        let timeout = match framer.is_empty() {
+            true => replied.then_some(PATIENCE),
+            false => Some(silence),
+        };
+        match line.wait(stop, timeout)? {
             Event::Stop => return Ok(()),
             Event::Ready => framer.push(line.read(&mut buffer)?),
+            Event::Timeout if framer.is_empty() => {
+                line.forget()?;
+                replied = false;
+            }
             Event::Timeout => {
                 let mut reply = [0; REPLY_BYTES];
                 let reply = server.answer(&framer.take(), &mut reply)?;
-                if !line.send(reply, &stop)? {
-                    say("nobody takes the reply from the line; it was dropped");
+                if !line.send(reply, stop)? {
+                    say("the line doesn't take the reply; it was dropped");
                 }
+                replied = true;
             }
         }
     }
