@@ -22,7 +22,7 @@ impl Line {
     pub fn open(device: Option<&Path>, speed: u32, parity: Parity) -> Result<Line, String> {
         match device {
             Some(path) => Line::device(path, speed, parity).map_err(|e| format!("the device {} can't be used: {e}", path.display())),
-            None => Line::pty(speed, parity).map_err(|e| format!("there is no pseudo-terminal to be had: {e}")),
+            None => Line::pty(speed).map_err(|e| format!("there is no pseudo-terminal to be had: {e}")),
         }
     }
 
@@ -37,10 +37,11 @@ impl Line {
         })
     }
 
-    fn pty(speed: u32, parity: Parity) -> io::Result<Line> {
+    /// A pseudo-terminal has no parity, and the C library may refuse to set one.
+    fn pty(speed: u32) -> io::Result<Line> {
         let (file, path) = sys::open_pty()?;
         let clients = open(&path)?;
-        sys::set_raw(&clients, speed, parity)?;
+        sys::set_raw(&clients, speed, Parity::None)?;
         Ok(Line {
             path,
             file,
