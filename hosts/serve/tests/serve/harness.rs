@@ -47,27 +47,30 @@ impl Folder {
         names
     }
 
-    fn command(&self, words: &str) -> Command {
+    /// A server, and the line that it has announced: empty where it ended without one.
+    fn spawn(&self, words: &str) -> Server {
         let mut command = Command::new(env!("CARGO_BIN_EXE_serve"));
         command.current_dir(&self.0).args(words.split_whitespace());
-        command
+        let mut child = command.stdout(Stdio::piped()).stderr(Stdio::piped()).spawn().unwrap();
+        let mut first = String::new();
+        BufReader::new(child.stdout.take().unwrap()).read_line(&mut first).unwrap();
+        Server {
+            child,
+            path: PathBuf::from(first.trim_end()),
+        }
     }
 
-    /// Runs a server that can't start: exit status and standard error. Standard output has to stay empty.
+    /// Runs a server that can't start: exit status and standard error.
     pub fn refused(&self, words: &str) -> (i32, String) {
-        let output = self.command(words).output().unwrap();
-        assert!(output.stdout.is_empty(), "{words}: {output:?}");
-        (output.status.code().unwrap(), String::from_utf8(output.stderr).unwrap())
+        let mut server = self.spawn(words);
+        assert_eq!(server.path, PathBuf::new(), "{words}");
+        server.ended()
     }
 
     /// Starts a server and waits until it serves.
     pub fn serve(&self, words: &str) -> Server {
-        let mut child = self.command(words).stdout(Stdio::piped()).stderr(Stdio::piped()).spawn().unwrap();
-        let mut first = String::new();
-        BufReader::new(child.stdout.take().unwrap()).read_line(&mut first).unwrap();
-        let path = PathBuf::from(first.trim_end());
-        let mut server = Server { child, path };
-        if first.is_empty() {
+        let mut server = self.spawn(words);
+        if server.path.as_os_str().is_empty() {
             panic!("{words}: the server ended with {:?}", server.ended());
         }
         server
@@ -102,6 +105,11 @@ impl Server {
 
     /// Waits for the end: exit status and standard error.
     pub fn ended(&mut self) -> (i32, String) {
+        let start = Instant::now();
+        while self.child.try_wait().unwrap().is_none() {
+            assert!(start.elapsed() < DEADLINE, "the server goes on");
+            sleep(Duration::from_millis(1));
+        }
         let mut said = String::new();
         self.child.stderr.take().unwrap().read_to_string(&mut said).unwrap();
         (self.child.wait().unwrap().code().unwrap_or(-1), said)
