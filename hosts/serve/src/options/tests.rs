@@ -1,0 +1,69 @@
+use super::*;
+
+fn parsed(words: &str) -> Result<Command, String> {
+    parse(words.split_whitespace().map(OsString::from))
+}
+
+fn options(words: &str) -> Options {
+    match parsed(words) {
+        Ok(Command::Serve(options)) => options,
+        other => panic!("{words}: {other:?}"),
+    }
+}
+
+#[test]
+fn without_options_the_defaults_hold() {
+    let o = options("");
+    assert_eq!((o.device, o.speed, o.parity, o.silence), (None, 19200, Parity::Even, None));
+    assert_eq!((o.address, o.volume, o.entries), (1, PathBuf::from("sonde.volume"), 1000));
+    assert_eq!((o.raws, o.raws_file, o.clock, o.verbose), (Raws::default(), None, None, false));
+}
+
+#[test]
+fn every_option_is_taken() {
+    let o = options("--device /dev/ttyUSB0 --speed 9600 --parity none --silence 20 --address 247 --volume v --entries 3 --verbose");
+    assert_eq!(
+        (o.device, o.speed, o.parity),
+        (Some(PathBuf::from("/dev/ttyUSB0")), 9600, Parity::None)
+    );
+    assert_eq!(o.silence, Some(Duration::from_millis(20)));
+    assert_eq!((o.address, o.volume, o.entries, o.verbose), (247, PathBuf::from("v"), 3, true));
+
+    let o = options("--raws r --clock 4294967295 --raw 2=7.5 --raw 4=absent --parity odd");
+    assert_eq!(
+        (o.raws_file, o.clock, o.parity),
+        (Some(PathBuf::from("r")), Some(u32::MAX), Parity::Odd)
+    );
+    assert_eq!(o.raws.get(2), Some((7.5, 0.0)));
+    assert_eq!(o.raws.get(4), None);
+}
+
+#[test]
+fn help_goes_before_what_follows_it() {
+    assert!(matches!(parsed("--help"), Ok(Command::Help)));
+    assert!(matches!(parsed("--verbose -h --bogus"), Ok(Command::Help)));
+}
+
+#[test]
+fn wrong_words_are_named() {
+    for (words, message) in [
+        ("--bogus", "there is no option --bogus"),
+        ("volume", "there is no option volume"),
+        ("--speed", "--speed wants a value"),
+        ("--device --speed 9600", "--device wants a value"),
+        ("--speed 9601", "--speed 9601: the speeds are 300, 600,"),
+        ("--parity mark", "--parity mark: it is none, even or odd"),
+        ("--address 0", "--address 0: that is no whole number from 1 to 247"),
+        ("--address 248", "from 1 to 247"),
+        ("--address 1.5", "from 1 to 247"),
+        ("--entries 0", "from 1 to 1000"),
+        ("--entries 1001", "from 1 to 1000"),
+        ("--silence 0", "from 1 to 10000"),
+        ("--clock 4294967296", "from 0 to 4294967295"),
+        ("--clock -1", "from 0 to 4294967295"),
+        ("--raw 5=1", "--raw 5=1: the sensors are 1 to 4"),
+    ] {
+        let said = parsed(words).unwrap_err();
+        assert!(said.contains(message), "{words}: {said}");
+    }
+}

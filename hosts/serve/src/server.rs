@@ -1,0 +1,134 @@
+//! The loop: cut a frame, let the library answer it, keep the volume safe, send the reply.
+
+use crate::framing::{silence, Framer};
+use crate::line::{Line, PATIENCE};
+use crate::options::Options;
+use crate::say;
+use crate::sensors::Sensors;
+use crate::sys::{self, Event};
+use crate::volume::VolumeFile;
+use sonde::{Sonde, REPLY_BYTES};
+use std::fs::File;
+use std::io::Write;
+use std::time::{Duration, SystemTime};
+
+/// Serves until a signal stops it.
+pub fn serve(options: &Options) -> Result<(), String> {
+    let stop = sys::stop_signals().map_err(|e| format!("signals can't be caught: {e}"))?;
+    let sensors = Sensors::new(options.raws, options.raws_file.as_deref())?;
+    let line = Line::open(options.device.as_deref(), options.speed, options.parity)?;
+    let server = Server::new(options, sensors)?;
+    announce(&line)?;
+    exchange(server, line, &stop, options.silence.unwrap_or(silence(options.speed)))
+}
+
+/// Answers frame after frame until `stop` can be read.
+fn exchange(mut server: Server, mut line: Line, stop: &File, silence: Duration) -> Result<(), String> {
+    let mut framer = Framer::default();
+    let mut replied = false;
+    let mut buffer = [0; 512];
+    loop {
+        let timeout = match framer.is_empty() {
+            true => replied.then_some(PATIENCE),
+            false => Some(silence),
+        };
+        match line.wait(stop, timeout)? {
+            Event::Stop => return Ok(()),
+            Event::Ready => framer.push(line.read(&mut buffer)?),
+            Event::Timeout if framer.is_empty() => {
+                line.forget()?;
+                replied = false;
+            }
+            Event::Timeout => {
+                let mut reply = [0; REPLY_BYTES];
+                let reply = server.answer(&framer.take(), &mut reply)?;
+                if !line.send(reply, stop)? {
+                    say("the line doesn't take the reply; it was dropped");
+                }
+                replied = true;
+            }
+        }
+    }
+}
+
+/// The first line of standard output, by which scripts find the line.
+fn announce(line: &Line) -> Result<(), String> {
+    let mut out = std::io::stdout();
+    let written = writeln!(out, "{}", line.path.display()).and_then(|()| out.flush());
+    written.map_err(|e| format!("the line's path can't be written to standard output: {e}"))
+}
+
+struct Server {
+    sonde: Sonde,
+    volume: VolumeFile,
+    sensors: Sensors,
+    /// None: the system's.
+    clock: Option<u32>,
+    verbose: bool,
+}
+
+impl Server {
+    fn new(options: &Options, sensors: Sensors) -> Result<Server, String> {
+        let (volume, sonde) = VolumeFile::open(&options.volume, options.address, options.entries)?;
+        Ok(Server {
+            sonde,
+            volume,
+            sensors,
+            clock: options.clock,
+            verbose: options.verbose,
+        })
+    }
+
+    /// The reply to a frame, empty for none. An accepted calibration is in the file before its reply is handed back. Where that fails, so
+    /// does this: the reply would promise an archive that isn't there.
+    fn answer<'a>(&mut self, frame: &[u8], buffer: &'a mut [u8]) -> Result<&'a [u8], String> {
+        let clock = self.clock.unwrap_or_else(system_clock);
+        let refused = |e: sonde::Error| format!("the library refused a call with number {}: {e}", e as u8);
+        self.sensors.measure(&mut self.sonde).map_err(refused)?;
+        let reply = self.sonde.frame(frame, buffer, &mut self.volume.words, clock).map_err(refused)?;
+        let journalled = self.volume.save()?;
+        if self.verbose {
+            let entries = journalled
+                .then(|| self.sonde.audit(&self.volume.words))
+                .transpose()
+                .map_err(refused)?;
+            say(&log_line(clock, frame, reply, entries));
+        }
+        Ok(reply)
+    }
+}
+
+/// Whole seconds since 1970, UTC. They fill 32 bits until 2106.
+fn system_clock() -> u32 {
+    let since = SystemTime::now().duration_since(SystemTime::UNIX_EPOCH).unwrap_or_default();
+    since.as_secs().try_into().unwrap_or(u32::MAX)
+}
+
+/// What --verbose says of a frame; the entries in use, where it was an accepted calibration.
+fn log_line(clock: u32, frame: &[u8], reply: &[u8], entries: Option<u16>) -> String {
+    let hex = |bytes: &[u8]| bytes.iter().map(|b| format!("{b:02X}")).collect::<Vec<_>>().join(" ");
+    let answer = match reply {
+        [] => "no reply".to_string(),
+        [_, function, code, ..] if function & 0x80 != 0 => format!("< {} (exception 0x{code:02X})", hex(reply)),
+        _ => format!("< {}", hex(reply)),
+    };
+    let note = entries.map_or(String::new(), |n| format!(" (calibration journalled, entries in use: {n})"));
+    format!("{clock} > {} {answer}{note}", hex(frame))
+}
+
+#[cfg(test)]
+mod tests {
+    use super::*;
+
+    #[test]
+    fn a_line_for_each_frame() {
+        let lines = [
+            log_line(7, &[1, 3, 0xAB], &[], None),
+            log_line(7, &[1, 0x44], &[1, 0xC4, 1, 0, 0], None),
+            log_line(9, &[1, 6], &[1, 6], Some(3)),
+        ];
+        assert_eq!(lines[0], "7 > 01 03 AB no reply");
+        assert_eq!(lines[1], "7 > 01 44 < 01 C4 01 00 00 (exception 0x01)");
+        assert_eq!(lines[2], "9 > 01 06 < 01 06 (calibration journalled, entries in use: 3)");
+    }
+}

@@ -1,0 +1,19 @@
+//! The calls of the C library that std doesn't have, with glibc's types on x86-64 (libsonde.a is for no other machine). All the unsafe code
+//! of this host is in the two modules below.
+
+mod events;
+mod terminal;
+
+pub use events::{stop_signals, wait, Event, Wish};
+pub use terminal::{drop_input, open_pty, set_raw, Parity, LINE_FLAGS};
+
+use std::ffi::c_int;
+use std::io;
+
+/// What a call that answers -1 has said.
+fn done(result: c_int) -> io::Result<c_int> {
+    if result < 0 {
+        return Err(io::Error::last_os_error());
+    }
+    Ok(result)
+}

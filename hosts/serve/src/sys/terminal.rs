@@ -1,0 +1,102 @@
+//! Pseudo-terminals and the settings of a line.
+
+use super::done;
+use std::ffi::{c_char, c_int, c_uint, CStr, OsStr};
+use std::fs::File;
+use std::io;
+use std::os::fd::{AsRawFd, FromRawFd};
+use std::os::unix::ffi::OsStrExt;
+use std::path::PathBuf;
+
+/// Flags of open: no controlling terminal, no waiting.
+pub const LINE_FLAGS: c_int = 0o400 | 0o4000;
+const O_RDWR: c_int = 0o2;
+const O_CLOEXEC: c_int = 0o2000000;
+const INPCK: c_uint = 0o20;
+const CSTOPB: c_uint = 0o100;
+const CREAD: c_uint = 0o200;
+const PARENB: c_uint = 0o400;
+const PARODD: c_uint = 0o1000;
+const CLOCAL: c_uint = 0o4000;
+const CRTSCTS: c_uint = 0o20000000000;
+const TCSANOW: c_int = 0;
+const TCIFLUSH: c_int = 0;
+
+#[repr(C)]
+#[derive(Default)]
+struct Termios {
+    iflag: c_uint,
+    oflag: c_uint,
+    cflag: c_uint,
+    lflag: c_uint,
+    line: u8,
+    cc: [u8; 32],
+    ispeed: c_uint,
+    ospeed: c_uint,
+}
+
+extern "C" {
+    fn posix_openpt(flags: c_int) -> c_int;
+    fn grantpt(fd: c_int) -> c_int;
+    fn unlockpt(fd: c_int) -> c_int;
+    fn ptsname_r(fd: c_int, name: *mut c_char, length: usize) -> c_int;
+    fn tcgetattr(fd: c_int, termios: *mut Termios) -> c_int;
+    fn tcsetattr(fd: c_int, when: c_int, termios: *const Termios) -> c_int;
+    fn tcflush(fd: c_int, queue: c_int) -> c_int;
+    fn cfmakeraw(termios: *mut Termios);
+    fn cfsetspeed(termios: *mut Termios, speed: c_uint) -> c_int;
+}
+
+/// The master's end of a new pseudo-terminal, and the path of the other.
+pub fn open_pty() -> io::Result<(File, PathBuf)> {
+    let mut name = [0; 128];
+    // SAFETY: posix_openpt hands back a descriptor that nobody else owns; the name is lent with its length, and ends with a zero on success.
+    unsafe {
+        let master = File::from_raw_fd(done(posix_openpt(O_RDWR | O_CLOEXEC | LINE_FLAGS))?);
+        let fd = master.as_raw_fd();
+        done(grantpt(fd))?;
+        done(unlockpt(fd))?;
+        match ptsname_r(fd, name.as_mut_ptr(), name.len()) {
+            0 => Ok((master, PathBuf::from(OsStr::from_bytes(CStr::from_ptr(name.as_ptr()).to_bytes())))),
+            error => Err(io::Error::from_raw_os_error(error)),
+        }
+    }
+}
+
+/// With a parity 1 stop bit, without one 2: a character has 11 bits in any case, as the standard wants.
+#[derive(Clone, Copy, Debug, PartialEq)]
+pub enum Parity {
+    None,
+    Even,
+    Odd,
+}
+
+/// Bytes as they are, 8 bits each, at this speed. A byte with a wrong parity is read as zero, so that the checksum refuses it.
+pub fn set_raw(line: &File, speed: u32, parity: Parity) -> io::Result<()> {
+    let mut termios = Termios::default();
+    // SAFETY: the descriptor is open, and the struct is as glibc declares it; cfmakeraw and cfsetspeed look at nothing else.
+    unsafe {
+        done(tcgetattr(line.as_raw_fd(), &mut termios))?;
+        cfmakeraw(&mut termios);
+        done(cfsetspeed(&mut termios, speed))?;
+    }
+    termios.cflag &= !(CSTOPB | PARENB | PARODD | CRTSCTS);
+    termios.cflag |= CREAD | CLOCAL;
+    termios.cflag |= match parity {
+        Parity::None => CSTOPB,
+        Parity::Even => PARENB,
+        Parity::Odd => PARENB | PARODD,
+    };
+    termios.iflag &= !INPCK;
+    if parity != Parity::None {
+        termios.iflag |= INPCK;
+    }
+    // SAFETY: as above.
+    done(unsafe { tcsetattr(line.as_raw_fd(), TCSANOW, &termios) }).map(|_| ())
+}
+
+/// Drops what has come in at a line and was not read.
+pub fn drop_input(line: &File) -> io::Result<()> {
+    // SAFETY: the descriptor is open.
+    done(unsafe { tcflush(line.as_raw_fd(), TCIFLUSH) }).map(|_| ())
+}

@@ -1,0 +1,177 @@
+//! A server in a folder of its own, and a client that sends raw frames.
+
+use std::fs::{self, File, OpenOptions};
+use std::io::{BufRead, BufReader, Read, Write};
+use std::os::unix::fs::OpenOptionsExt;
+use std::path::{Path, PathBuf};
+use std::process::{Child, Command, Stdio};
+use std::sync::atomic::{AtomicU32, Ordering};
+use std::thread::sleep;
+use std::time::{Duration, Instant};
+
+/// Far longer than the silence of 2 ms, so that a busy machine doesn't close the gap.
+pub const PAUSE: Duration = Duration::from_millis(300);
+const DEADLINE: Duration = Duration::from_secs(10);
+
+/// A folder that goes when the test ends.
+pub struct Folder(pub PathBuf);
+
+impl Folder {
+    pub fn new() -> Folder {
+        static COUNT: AtomicU32 = AtomicU32::new(0);
+        let name = format!("serve-test-{}-{}", std::process::id(), COUNT.fetch_add(1, Ordering::Relaxed));
+        let path = std::env::temp_dir().join(name);
+        fs::create_dir(&path).unwrap();
+        Folder(path)
+    }
+
+    pub fn path(&self, name: &str) -> PathBuf {
+        self.0.join(name)
+    }
+
+    pub fn write(&self, name: &str, content: impl AsRef<[u8]>) {
+        fs::write(self.path(name), content).unwrap();
+    }
+
+    pub fn read(&self, name: &str) -> Vec<u8> {
+        fs::read(self.path(name)).unwrap()
+    }
+
+    /// The names of the files, in order.
+    pub fn names(&self) -> Vec<String> {
+        let mut names: Vec<String> = fs::read_dir(&self.0)
+            .unwrap()
+            .map(|e| e.unwrap().file_name().into_string().unwrap())
+            .collect();
+        names.sort();
+        names
+    }
+
+    /// A server, and the line that it has announced: empty where it ended without one.
+    fn spawn(&self, words: &str) -> Server {
+        let mut command = Command::new(env!("CARGO_BIN_EXE_serve"));
+        command.current_dir(&self.0).args(words.split_whitespace());
+        let mut child = command.stdout(Stdio::piped()).stderr(Stdio::piped()).spawn().unwrap();
+        let mut first = String::new();
+        BufReader::new(child.stdout.take().unwrap()).read_line(&mut first).unwrap();
+        Server {
+            child,
+            path: PathBuf::from(first.trim_end()),
+        }
+    }
+
+    /// Runs a server that can't start: exit status and standard error.
+    pub fn refused(&self, words: &str) -> (i32, String) {
+        let mut server = self.spawn(words);
+        assert_eq!(server.path, PathBuf::new(), "{words}");
+        server.ended()
+    }
+
+    /// Starts a server and waits until it serves.
+    pub fn serve(&self, words: &str) -> Server {
+        let mut server = self.spawn(words);
+        if server.path.as_os_str().is_empty() {
+            panic!("{words}: the server ended with {:?}", server.ended());
+        }
+        server
+    }
+}
+
+impl Drop for Folder {
+    fn drop(&mut self) {
+        let _ = fs::remove_dir_all(&self.0);
+    }
+}
+
+pub struct Server {
+    child: Child,
+    pub path: PathBuf,
+}
+
+impl Server {
+    pub fn client(&self) -> Client {
+        Client::open(&self.path)
+    }
+
+    /// Sends a signal (INT or TERM) and waits for the end.
+    pub fn stop(mut self, signal: &str) -> (i32, String) {
+        let kill = Command::new("kill")
+            .arg(format!("-{signal}"))
+            .arg(self.child.id().to_string())
+            .status();
+        assert!(kill.unwrap().success());
+        self.ended()
+    }
+
+    /// Waits for the end: exit status and standard error.
+    pub fn ended(&mut self) -> (i32, String) {
+        let start = Instant::now();
+        while self.child.try_wait().unwrap().is_none() {
+            assert!(start.elapsed() < DEADLINE, "the server goes on");
+            sleep(Duration::from_millis(1));
+        }
+        let mut said = String::new();
+        self.child.stderr.take().unwrap().read_to_string(&mut said).unwrap();
+        (self.child.wait().unwrap().code().unwrap_or(-1), said)
+    }
+}
+
+impl Drop for Server {
+    fn drop(&mut self) {
+        let _ = self.child.kill();
+        let _ = self.child.wait();
+    }
+}
+
+pub struct Client(pub File);
+
+impl Client {
+    fn open(path: &Path) -> Client {
+        let mut options = OpenOptions::new();
+        options.read(true).write(true).custom_flags(serve::sys::LINE_FLAGS);
+        Client(options.open(path).unwrap())
+    }
+
+    pub fn send(&mut self, bytes: &[u8]) {
+        self.0.write_all(bytes).unwrap();
+    }
+
+    /// The next bytes, this many or those that came until the deadline.
+    pub fn receive(&mut self, length: usize, deadline: Duration) -> Vec<u8> {
+        let start = Instant::now();
+        let mut bytes = vec![0; length];
+        let mut got = 0;
+        while got < length && start.elapsed() < deadline {
+            match self.0.read(&mut bytes[got..]) {
+                Ok(n) => got += n,
+                Err(_) => sleep(Duration::from_millis(1)),
+            }
+        }
+        bytes.truncate(got);
+        bytes
+    }
+
+    /// Sends a body with its checksum, and holds the reply to an expected body with its own.
+    pub fn ask(&mut self, body: &[u8], expected: &[u8]) {
+        self.send(&framed(body));
+        let expected = framed(expected);
+        assert_eq!(self.receive(expected.len(), DEADLINE), expected, "the reply to {body:02X?}");
+    }
+
+    /// Nothing comes, for a while.
+    pub fn hears_nothing(&mut self) {
+        assert_eq!(self.receive(1, PAUSE), []);
+    }
+}
+
+/// A body with its CRC-16, low byte first: by bits, apart from the library.
+pub fn framed(body: &[u8]) -> Vec<u8> {
+    let mut crc = 0xFFFFu16;
+    for byte in body {
+        crc ^= u16::from(*byte);
+        for _ in 0..8 {
+            crc = if crc & 1 == 1 { crc >> 1 ^ 0xA001 } else { crc >> 1 };
+        }
+    }
+    [body, &crc.to_le_bytes()].concat()
+}

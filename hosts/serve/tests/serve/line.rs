@@ -1,0 +1,141 @@
+use crate::harness::{framed, Client, Folder, PAUSE};
+use serve::line::PATIENCE;
+use serve::sys::open_pty;
+use std::thread::sleep;
+use std::time::{Duration, Instant};
+
+/// Registers 4 to 6: good, bad, exceptions.
+const COUNTERS: [u8; 6] = [1, 3, 0, 4, 0, 3];
+/// The version of the map.
+const VERSION: ([u8; 6], [u8; 5]) = ([1, 3, 0, 0, 0, 1], [1, 3, 2, 0, 3]);
+
+#[test]
+fn halves_with_a_pause_between_are_two_bad_frames() {
+    let folder = Folder::new();
+    let server = folder.serve("");
+    let mut client = server.client();
+    let frame = framed(&VERSION.0);
+    client.send(&frame[..4]);
+    sleep(PAUSE);
+    client.send(&frame[4..]);
+    client.hears_nothing();
+    client.ask(&COUNTERS, &[1, 3, 6, 0, 0, 0, 2, 0, 0]);
+}
+
+#[test]
+fn halves_with_less_than_the_silence_between_are_one_good_frame() {
+    let folder = Folder::new();
+    let server = folder.serve("--silence 1000");
+    let mut client = server.client();
+    let frame = framed(&VERSION.0);
+    client.send(&frame[..4]);
+    sleep(Duration::from_millis(20));
+    client.send(&frame[4..]);
+    assert_eq!(client.receive(7, Duration::from_secs(10)), framed(&VERSION.1));
+    client.ask(&COUNTERS, &[1, 3, 6, 0, 1, 0, 0, 0, 0]);
+}
+
+#[test]
+fn the_silence_is_3_5_characters_of_the_speed() {
+    let folder = Folder::new();
+    let server = folder.serve("--speed 300");
+    let mut client = server.client();
+    let start = Instant::now();
+    client.ask(&VERSION.0, &VERSION.1);
+    assert!(start.elapsed() >= Duration::from_micros(128_333));
+}
+
+#[test]
+fn a_long_burst_is_one_bad_frame() {
+    let folder = Folder::new();
+    let server = folder.serve("");
+    let mut client = server.client();
+    for length in [255, 3000] {
+        client.send(&framed(&vec![1; length]));
+        client.hears_nothing();
+    }
+    client.ask(&COUNTERS, &[1, 3, 6, 0, 0, 0, 2, 0, 0]);
+}
+
+#[test]
+fn a_frame_of_256_bytes_is_answered() {
+    let folder = Folder::new();
+    let server = folder.serve("");
+    let mut client = server.client();
+    let mut body = [0; 254];
+    body[..2].copy_from_slice(&[1, 0x44]); // another function: code 1
+    client.ask(&body, &[1, 0xC4, 1]);
+}
+
+#[test]
+fn frames_for_others_and_for_all_get_no_reply() {
+    let folder = Folder::new();
+    let server = folder.serve("--address 17");
+    let mut client = server.client();
+    client.send(&framed(&[18, 3, 0, 0, 0, 1]));
+    client.hears_nothing();
+    client.send(&framed(&[0, 16, 0, 103, 0, 2, 4, 1, 2, 3, 4])); // sensor 1's next calibration
+    client.hears_nothing();
+    client.ask(&[17, 3, 0, 103, 0, 2], &[17, 3, 4, 1, 2, 3, 4]);
+}
+
+#[test]
+fn a_reply_that_a_client_left_is_not_given_to_the_next() {
+    let folder = Folder::new();
+    let server = folder.serve("");
+    let mut first = server.client();
+    first.send(&framed(&COUNTERS));
+    drop(first);
+    sleep(PATIENCE + PAUSE);
+    let mut second = server.client();
+    second.ask(&VERSION.0, &VERSION.1);
+    second.hears_nothing();
+}
+
+#[test]
+fn a_device_is_served_and_its_end_is_told() {
+    let folder = Folder::new();
+    let (wire, device) = open_pty().unwrap();
+    let mut server = folder.serve(&format!("--device {} --speed 9600 --parity none", device.display()));
+    assert_eq!(server.path, device);
+    let mut client = Client(wire);
+    client.ask(&VERSION.0, &VERSION.1);
+    client.ask(&COUNTERS, &[1, 3, 6, 0, 1, 0, 0, 0, 0]);
+    drop(client);
+    let (status, said) = server.ended();
+    assert_eq!(status, 1);
+    assert!(said.contains(&format!("the line {} failed", device.display())), "{said}");
+}
+
+#[test]
+fn signals_end_it_well() {
+    for signal in ["INT", "TERM"] {
+        let folder = Folder::new();
+        let server = folder.serve("");
+        let mut client = server.client();
+        client.ask(&VERSION.0, &VERSION.1);
+        client.send(&[1, 3]); // in the middle of a frame
+        assert_eq!(server.stop(signal), (0, String::new()));
+        assert_eq!(folder.names(), ["sonde.volume", "sonde.volume.lock"]);
+    }
+}
+
+#[test]
+fn verbose_says_what_was_done() {
+    let folder = Folder::new();
+    let server = folder.serve("--verbose --clock 1767225600");
+    let mut client = server.client();
+    client.ask(&VERSION.0, &VERSION.1);
+    client.send(&[1, 3, 0, 0]);
+    client.hears_nothing();
+    client.ask(&[1, 6, 0, 105, 0xE0, 0x01], &[1, 0x86, 0x92]);
+    client.ask(&[1, 6, 0, 105, 0xE0, 0x00], &[1, 6, 0, 105, 0xE0, 0x00]);
+    client.ask(&[1, 6, 0, 105, 0xE0, 0x01], &[1, 6, 0, 105, 0xE0, 0x01]);
+    let (_, said) = server.stop("TERM");
+    let lines: Vec<&str> = said.lines().collect();
+    assert_eq!(lines[0], "serve: 1767225600 > 01 03 00 00 00 01 84 0A < 01 03 02 00 03 F8 45");
+    assert_eq!(lines[1], "serve: 1767225600 > 01 03 00 00 no reply");
+    assert!(lines[2].ends_with("(exception 0x92)"), "{said}");
+    assert!(lines[4].ends_with("(calibration journalled, entries in use: 1)"), "{said}");
+    assert_eq!(lines.len(), 5);
+}

@@ -1,0 +1,45 @@
+use crate::harness::Folder;
+use std::process::Command;
+
+#[test]
+fn wrong_options_are_told_and_nothing_is_begun() {
+    let folder = Folder::new();
+    for (words, message) in [
+        ("--bogus", "there is no option --bogus"),
+        ("--speed", "--speed wants a value"),
+        ("--speed 12", "--speed 12: the speeds are"),
+        ("--parity mark", "--parity mark: it is none, even or odd"),
+        ("--address 248", "--address 248: that is no whole number from 1 to 247"),
+        ("--entries 1001", "--entries 1001: that is no whole number from 1 to 1000"),
+        ("--raw 2=nan", "--raw 2=nan: the value is no finite number"),
+        ("--raw 9=1", "--raw 9=1: the sensors are 1 to 4"),
+    ] {
+        let (status, said) = folder.refused(words);
+        assert_eq!(status, 2, "{words}");
+        assert!(said.contains(message), "{words}: {said}");
+    }
+    assert!(folder.names().is_empty());
+}
+
+#[test]
+fn a_device_that_cannot_be_used_is_told_and_nothing_is_begun() {
+    let folder = Folder::new();
+    for device in ["/dev/there-is-none", "/dev/null"] {
+        let (status, said) = folder.refused(&format!("--device {device}"));
+        assert_eq!(status, 1);
+        assert!(said.contains(&format!("the device {device} can't be used")), "{said}");
+    }
+    assert!(folder.names().is_empty());
+}
+
+#[test]
+fn help_names_every_option() {
+    let output = Command::new(env!("CARGO_BIN_EXE_serve")).arg("--help").output().unwrap();
+    assert!(output.status.success() && output.stderr.is_empty());
+    let text = String::from_utf8(output.stdout).unwrap();
+    for name in [
+        "device", "speed", "parity", "silence", "address", "volume", "entries", "raw", "raws", "clock", "verbose", "help",
+    ] {
+        assert!(text.contains(&format!("    --{name} ")), "{name}");
+    }
+}
