@@ -13,7 +13,7 @@ use Rattle.sensors.specs.Changes.{sample, restarted, calibratedAt, withTrial, w
 use Rattle.sensors.specs.declared.Setup.{Setup}
 use Rattle.sensors.specs.declared.Sensor.{Sensor}
 use Rattle.readings.specs.Readings.{calibratedOf, resistivityOf, height, depthOf, pressureOf, levelOf, conductivityValue, levelValue, valueOf, workedFrom, judgedReading, readingOf}
-use Rattle.registers.specs.Registers.{modeOf, shownCoefficients, coefficientRegister, pointRegister, shownId, parameterRegister, headRegister, sensorRegister, deviceRegister}
+use Rattle.registers.specs.Registers.{modeOf, shownCoefficients, coefficientRegister, pointRegister, shownId, readingRegister, parameterRegister, headRegister, sensorRegister, deviceRegister}
 
 -- registers from offset o on, n of them
 abbrev registers : ℕ → Sensor → ℕ → ℕ → List ℕ
@@ -93,7 +93,7 @@ pub record Worked : Type 0 where
 
 -- by computation
 pub worked : Worked
-unfolding sensorRegister headRegister deviceRegister modeOf shownCoefficients coefficientRegister pointRegister shownId parameterRegister readingOf judgedReading workedFrom valueOf conductivityValue levelValue calibratedOf resistivityOf height depthOf pressureOf levelOf parameterOf freshParameter freshSetup freshSensor restarted calibratedAt withTrial withLevel withParameter measuredOf countOf idOf defaultUnits availableUnits converted defaultsOf near minus round ofBits toBits finite highWord lowWord add sub mul div le eq
+unfolding sensorRegister headRegister deviceRegister modeOf shownCoefficients coefficientRegister pointRegister shownId parameterRegister readingRegister readingOf judgedReading workedFrom valueOf conductivityValue levelValue calibratedOf resistivityOf height depthOf pressureOf levelOf parameterOf freshParameter freshSetup freshSensor restarted calibratedAt withTrial withLevel withParameter measuredOf countOf idOf defaultUnits availableUnits converted defaultsOf near minus round ofBits toBits finite highWord lowWord add sub mul div le eq
 worked =
     record {
       fresh-head = refl;

@@ -5,30 +5,6 @@ use borrow.Author.Needs.{needs}
 use Rattle.registers.proofs.parameter_register.Statement.{statement}
 use Rattle.registers.proofs.parameter_register.Tie as tie
 
-parameter-requires : tie.Need-parameter-requires
-parameter-requires c κs = search needs
-
-shown-id-requires : tie.Need-shown-id-requires
-shown-id-requires c κs = search needs
-
-high-word-requires : tie.Need-high-word-requires
-high-word-requires c κs = search needs
-
-low-word-requires : tie.Need-low-word-requires
-low-word-requires c κs = search needs
-
-parameter-id-requires : tie.Need-parameter-id-requires
-parameter-id-requires c κs = search needs
-
-available-units-requires : tie.Need-available-units-requires
-available-units-requires c κs = search needs
-
-read-requires : tie.Need-read-requires
-read-requires c κs = search needs
-
-reading-register-requires : tie.Need-reading-register-requires
-reading-register-requires c κs = search needs
-
 returns : tie.Need-returns
 unfolding parameterRegister
 returns c = simp (c .before .match .keys1, ← c .shown-id .ensures)
@@ -57,14 +33,14 @@ pub parameter-register-spec : {M : Type 1} → statement M
 parameter-register-spec =
     tie.close
     (tie.spec
-    parameter-requires
-    shown-id-requires
-    high-word-requires
-    low-word-requires
-    parameter-id-requires
-    available-units-requires
-    read-requires
-    reading-register-requires
+    (λ c κs. search needs)
+    (λ c κs. search needs)
+    (λ c κs. search needs)
+    (λ c κs. search needs)
+    (λ c κs. search needs)
+    (λ c κs. search needs)
+    (λ c κs. search needs)
+    (λ c κs. search needs)
     returns
     returns-2
     returns-3

@@ -5,12 +5,6 @@ use borrow.Author.Needs.{needs}
 use Rattle.registers.proofs.reading_register.Statement.{statement}
 use Rattle.registers.proofs.reading_register.Tie as tie
 
-high-word-requires : tie.Need-high-word-requires
-high-word-requires c κs = search needs
-
-low-word-requires : tie.Need-low-word-requires
-low-word-requires c κs = search needs
-
 returns : tie.Need-returns
 unfolding readingRegister
 returns c = simp (c .before .match .keys1, ← c .high-word .ensures)
@@ -25,4 +19,4 @@ returns-3 c = simp (ne-eqb _ _ (c .match .rest .0 .1), ne-eqb _ _ (c .match .res
 
 pub reading-register-spec : {M : Type 1} → statement M
 reading-register-spec =
-    tie.close (tie.spec high-word-requires low-word-requires returns returns-2 returns-3)
+    tie.close (tie.spec (λ c κs. search needs) (λ c κs. search needs) returns returns-2 returns-3)
