@@ -94,10 +94,13 @@ registerOf d v r =
     cond (eqb (r / 100) 0) (deviceRegister v (r % 100))
     (cond (leb (r / 100) 4) (sensorRegister (r / 100) (sensorAt d (r / 100)) (r % 100)) 0)
 
--- count registers from r on
+-- what count registers from r on show, each by f
+abbrev pub shownFrom : (ℕ → ℕ) → ℕ → ℕ → List ℕ
+shownFrom f r zero = []
+shownFrom f r (suc n) = f r ∷ shownFrom f (suc r) n
+
 abbrev pub registersFrom : Sonde → Device → ℕ → ℕ → List ℕ
-registersFrom d v r zero = []
-registersFrom d v r (suc n) = registerOf d v r ∷ registersFrom d v (suc r) n
+registersFrom d v r count = shownFrom (registerOf d v) r count
 
 unfoldable pub reading : Sonde → List ℕ → ℕ → ℕ → ℕ → Answer
 reading d w clock start count = answer (countedGood d) (readReply (d .address) (registersFrom d (deviceOf d w clock) start count))

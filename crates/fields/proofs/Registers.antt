@@ -3,7 +3,7 @@
 use mathlib.Core.Path.{_≡_, refl, sym, ap, subst, _∙_}
 use mathlib.Core.Bool.{Bool, true, false, Bool·beq, _&&_, not, cond, false≢true}
 use mathlib.Core.List.{List, [], _∷_}
-use Prim.Native.Nat.{ℕ, zero, suc, _+_, _-_, _/_, _%_, _<_, _≤_}
+use Prim.Native.Nat.{ℕ, zero, suc, _+_, _-_, _*_, _/_, _%_, _<_, _≤_}
 use native.Mathlib.Nat.{add-zero, le-of-suc-le-suc, not-suc-le-zero}
 use native.Mathlib.Omega.{arith}
 use lib.Dec.{eqb, ltb}
@@ -205,3 +205,27 @@ all-found-ends start count e h = go (ltb (start + (count - 1)) 500) refl
     go : (b : Bool) → ltb (start + (count - 1)) 500 ≡ b → start + count ≤ 500
     go true q = omega (arith, ltb-true (start + (count - 1)) 500 q)
     go false q = absurd (false≢true (sym (ap found (past (start + (count - 1)) (ltb-false (start + (count - 1)) 500 q))) ∙ all-found-at start count (count - 1) e (omega arith)))
+
+-- the last register that an owner could have doesn't exist
+edges : below (λ owner. not (found (fieldAt (100 * owner + 99)))) 5 ≡ true
+unfolding fieldAt holds owns
+edges = refl
+
+edge : (owner : ℕ) → found (fieldAt (100 * owner + 99)) ≡ false
+edge owner = go (ltb owner 5) refl
+  where
+    go : (b : Bool) → ltb owner 5 ≡ b → found (fieldAt (100 * owner + 99)) ≡ false
+    go true q = not-true _ (at-number (λ o. not (found (fieldAt (100 * o + 99)))) 5 edges owner (ltb-true owner 5 q))
+    go false q = ap found (past (100 * owner + 99) (omega (arith, ltb-false owner 5 q)))
+
+-- so they are all one owner's
+pub all-found-block : (start count : ℕ) → allFound start count ≡ true → start % 100 + count ≤ 100
+all-found-block start count e = go (ltb 100 (start % 100 + count)) refl
+  where
+    go : (b : Bool) → ltb 100 (start % 100 + count) ≡ b → start % 100 + count ≤ 100
+    go false q = omega (arith, ltb-false 100 (start % 100 + count) q)
+    go true q =
+        let h : 100 < start % 100 + count = ltb-true 100 (start % 100 + count) q in
+        let i : ℕ = 99 - start % 100 in
+        let r : start + i ≡ 100 * (start / 100) + 99 = omega arith in
+        absurd (false≢true (sym (edge (start / 100)) ∙ ap (λ (x : ℕ). found (fieldAt x)) (sym r) ∙ all-found-at start count i e (omega arith)))

@@ -2,18 +2,20 @@
 ghost use mathlib.Core.Path.{_≡_};
 ghost use mathlib.Core.Bool.{true};
 ghost use mathlib.Core.List.{[]};
-ghost use Prim.Native.Nat.{_+_, _≤_};
+ghost use Prim.Native.Nat.{_+_, _%_, _<_, _≤_};
 ghost use lib.ListN.{length};
 ghost use Rattle.journal.specs.Journal.{IsSensor};
 ghost use Rattle.journal.specs.Valid.{valid};
 ghost use Rattle.rtu.specs.Frame.{overlay};
+ghost use Rattle.registers.specs.Registers.{sensorRegister, deviceRegister};
 ghost use Rattle.plans.specs.Plans.{planOf};
-ghost use Rattle.calls.specs.Frame.{outcome, answer as answered, handed, refusal, writtenReply, confirmation, deviceOf, registerOf, registersFrom, reading, spareIn, writeAt, carried, maskedWord, planned, frameOf};
+ghost use Rattle.calls.specs.Frame.{outcome, answer as answered, handed, refusal, writtenReply, confirmation, deviceOf, shownFrom, registersFrom, reading, spareIn, writeAt, carried, maskedWord, planned, frameOf};
 use calls::SondeFrame;
 use fields::Field;
 use plans::Plan;
 use registers::Device;
 use rtu::bytes;
+use sensors::Sensor;
 use state::Sonde;
 use writes::Written;
 
@@ -95,28 +97,37 @@ fn device(sonde: Sonde, volume: &[u16], clock: u32) -> Device
     }
 }
 
-// What a register shows; 0 where the map has none.
-fn register(sonde: Sonde, device: Device, r: u16) -> u16
-    ensures { λ x. ⌜ x ≡ registerOf sonde device r ⌝ }
-{
-    let owner = r / 100;
-    if owner == 0 {
-        return registers::device_register(device, r % 100);
-    }
-    if owner <= 4 {
-        return registers::sensor_register(owner, sonde.sensors[(owner as usize) - 1], r % 100);
-    }
-    0
-}
-
-// Registers from `start` on, as many as there are words.
-fn fill(words: &mut [u16], sonde: Sonde, device: Device, start: u16)
-    requires { ⌜ start + length (now words) ≤ 65536 ⌝ }
-    ensures { λ _. ⌜ now (words .exit) ≡ registersFrom sonde device start (length (now (words .entry))) ⌝ }
+// The device's registers from an offset on, as many as there are words.
+fn fill_device(words: &mut [u16], device: Device, offset: u16)
+    requires { ⌜ offset + length (now words) ≤ 65536 ⌝ }
+    ensures { λ _. ⌜ now (words .exit) ≡ shownFrom (deviceRegister device) offset (length (now (words .entry))) ⌝ }
 {
     for i in 0..words.len() {
-        words[i] = register(sonde, device, start + (i as u16));
+        words[i] = registers::device_register(device, offset + (i as u16));
     }
+}
+
+// A sensor's registers from an offset on, as many as there are words.
+fn fill_sensor(words: &mut [u16], sensor: u16, s: Sensor, offset: u16)
+    requires { ⌜ offset + length (now words) ≤ 65536 ⌝ }
+    ensures { λ _. ⌜ now (words .exit) ≡ shownFrom (sensorRegister sensor s) offset (length (now (words .entry))) ⌝ }
+{
+    for i in 0..words.len() {
+        words[i] = registers::sensor_register(sensor, s, offset + (i as u16));
+    }
+}
+
+// Registers from `start` on, as many as there are words, all of one owner.
+fn fill(words: &mut [u16], sonde: Sonde, device: Device, start: u16)
+    requires { ⌜ (start < 500) × (start % 100 + length (now words) ≤ 100) ⌝ }
+    ensures { λ _. ⌜ now (words .exit) ≡ registersFrom sonde device start (length (now (words .entry))) ⌝ }
+{
+    let owner = start / 100;
+    if owner == 0 {
+        fill_device(words, device, start % 100);
+        return;
+    }
+    fill_sensor(words, owner, sonde.sensors[(owner as usize) - 1], start % 100);
 }
 
 fn read(
@@ -127,7 +138,7 @@ fn read(
     start: u16,
     count: u16,
 ) -> SondeFrame
-    requires { ⌜ (256 ≤ length (now reply)) × (count ≤ 125) × (start + count ≤ 500) ⌝ }
+    requires { ⌜ (256 ≤ length (now reply)) × (count ≤ 125) × (start < 500) × (start % 100 + count ≤ 100) ⌝ }
     ensures { λ r. ⌜ r ≡ handed (reading sonde (now (volume .entry)) clock start count) ⌝ }
     ensures { λ _. ⌜ now (reply .exit) ≡ overlay (reading sonde (now (volume .entry)) clock start count .bytes) (now (reply .entry)) ⌝ }
 {

@@ -14,7 +14,7 @@ use Rattle.fields.specs.Fields.{fieldAt, allFound, whole}
 use Rattle.fields.specs.declared.Field.{Field}
 use Rattle.fields.specs.declared.Found.{Found}
 use Rattle.fields.specs.declared.Found.the-variants.{Row, Absent}
-use Rattle.fields.proofs.Registers.{whole-row, all-found-ends}
+use Rattle.fields.proofs.Registers.{whole-row, all-found-ends, all-found-block}
 use Rattle.fields.proofs.Writable.{written-sensor}
 use Rattle.plans.specs.Plans.{targetIn, targetOf, readingOf, writingOf, maskingOf, requested, planOf}
 use Rattle.plans.specs.declared.Target.{Target}
@@ -36,6 +36,7 @@ pub record Reads (start count : ℕ) : Type 0 where
   pub least : 1 ≤ count
   pub most : count ≤ 125
   pub ends : start + count ≤ 500
+  pub block : start % 100 + count ≤ 100
 
 pub record Writes (body : List ℕ) (count sensor : ℕ) (f : Field) : Type 0 where
   pub located : Located count sensor f
@@ -84,7 +85,7 @@ module _ (body : List ℕ) where
   read-facts : (start count : ℕ) → 1 ≤ count → count ≤ 125 → Facts body (readingOf start count)
   unfolding readingOf
   read-facts start count h k =
-      choose (Facts body) (allFound start count) (Reading start count) (Refused 2) (λ e. record { least = h; most = k; ends = all-found-ends start count e h })
+      choose (Facts body) (allFound start count) (Reading start count) (Refused 2) (λ e. record { least = h; most = k; ends = all-found-ends start count e h; block = all-found-block start count e })
       (λ e. tt)
 
   request-facts : (r : Request) → InRange body r → Facts body (requested r)

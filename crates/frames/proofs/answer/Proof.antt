@@ -11,7 +11,7 @@ read-requires c κs =
     let j = c .before .before .before .before .before in
     let a = j .before .before .before .before .args in
     let f = facts-of (a .sonde .address) (a .body .now) (sym (j .judge .ensures) ∙ c .before .before .before .start .given .1) in
-    (search needs, f .most, f .ends)
+    (search needs, f .most, omega (arith, f .least, f .ends), f .block)
 
 write-requires : tie.Need-write-requires
 write-requires c κs =

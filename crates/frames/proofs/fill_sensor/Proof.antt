@@ -1,4 +1,4 @@
--- `frames::fill` meets its contract: after i turns the first i words are the first i registers. Assumes nothing.
+-- `frames::fill_sensor` meets its contract: after i turns the first i words are the first i registers. Assumes nothing.
 use mathlib.Core.Path.{_≡_, refl, sym, _∙_}
 use Prim.Native.Nat.{_≤_, _<_, _-_}
 use native.Mathlib.Numerals.{add-one}
@@ -6,17 +6,18 @@ use native.Mathlib.Omega.{arith}
 use lib.ListN.{length, take}
 use lib.Seq.{take-all, take-suc-set}
 use borrow.Author.Needs.{needs}
-use Rattle.calls.specs.Frame.{registersFrom}
-use Rattle.frames.proofs.Registers.{registers-more}
-use Rattle.frames.proofs.fill.Statement.{statement}
-use Rattle.frames.proofs.fill.Tie as tie
+use Rattle.registers.specs.Registers.{sensorRegister}
+use Rattle.calls.specs.Frame.{shownFrom}
+use Rattle.frames.proofs.Registers.{shown-more}
+use Rattle.frames.proofs.fill_sensor.Statement.{statement}
+use Rattle.frames.proofs.fill_sensor.Tie as tie
 
 abbrev Inv-loop : tie.InvT-loop
-Inv-loop words₀ sonde device start i₀ i-end words i =
-    (i-end ≡ length words₀) × (i ≤ length words₀) × (length words ≡ length words₀) × (take i words ≡ registersFrom sonde device start i)
+Inv-loop words₀ sensor s offset i₀ i-end words i =
+    (i-end ≡ length words₀) × (i ≤ length words₀) × (length words ≡ length words₀) × (take i words ≡ shownFrom (sensorRegister sensor s) offset i)
 
 abbrev μ-loop : tie.MeasureT-loop
-μ-loop words₀ sonde device start i₀ i-end words i = length words₀ - i
+μ-loop words₀ sensor s offset i₀ i-end words i = length words₀ - i
 
 loop-holds : tie.Need-loop-holds Inv-loop μ-loop
 loop-holds c = (refl, omega arith, refl, refl)
@@ -30,7 +31,7 @@ loop-again c =
       search needs,
       search needs,
       search needs,
-      rw (add-one, take-suc-set (l .loop .words) i (c .register .result) h, l .loop .inv .3, c .register .ensures, registers-more (a .sonde) (a .device) (a .start) i),
+      rw (add-one, take-suc-set (l .loop .words) i (c .sensor-register .result) h, l .loop .inv .3, c .sensor-register .ensures, shown-more (sensorRegister (a .sensor) (a .s)) (a .offset) i),
     )
 
 returns : tie.Need-returns Inv-loop μ-loop
@@ -38,8 +39,8 @@ returns c =
     let i : c .before .loop .i ≡ length (c .before .before .before .args .words .now) = omega arith in
     rw (← i) (sym (take-all (c .before .loop .i) (c .before .loop .words) (omega arith)) ∙ c .before .loop .inv .3)
 
-pub fill-spec : {M : Type 1} → statement M
-fill-spec =
+pub fill-sensor-spec : {M : Type 1} → statement M
+fill-sensor-spec =
     tie.close
     (tie.spec
     Inv-loop
