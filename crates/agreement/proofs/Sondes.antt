@@ -14,7 +14,7 @@ use Rattle.floats.specs.Floats.{finite}
 use Rattle.floats.proofs.Bools.{both}
 use Rattle.calibration.specs.Coefficients.{coefficientsOf}
 use Rattle.journal.specs.Journal.{IsSensor}
-use Rattle.journal.specs.Replay.{replayOf}
+use Rattle.journal.specs.Replay.{replayOf, replays}
 use Rattle.journal.proofs.Tests.{sensor-cases, replaced-at}
 use Rattle.sensors.specs.Sensors.{freshSetup, freshSensor, validSetup, validSensor}
 use Rattle.sensors.specs.Changes.{calibratedAt}
@@ -25,7 +25,7 @@ use Rattle.sensors.proofs.Changed.{calibrated-valid, calibrated-fits, measured-
 use Rattle.state.specs.Sonde.{sonde, freshSonde, noSensor, sensorAt, setupAt, withSensor, withSetup, measuredAt, addressValid, validSonde}
 use Rattle.state.specs.declared.Counters.{Counters}
 use Rattle.state.specs.declared.Sonde.{Sonde}
-use Rattle.calls.specs.Calls.{rawsFinite, poweredSetup, poweredSensor, powered}
+use Rattle.calls.specs.Calls.{rawsFinite, poweredSetup, poweredSensor, poweredFrom, powered}
 use Rattle.agreement.specs.Model.{setupOf, freshSetups, poweredSetups}
 
 -- sensor s beside its setup in the book
@@ -172,7 +172,7 @@ module _ {d : Sonde} {address : ℕ} {ys : List Setup} (m : Matches d address ys
   -- a power-up from a volume whose replay is the calibrations in force
   pub powered-up : (a : ℕ) (w : List ℕ) → addressValid a ≡ true → ((s : ℕ) → IsSensor s → replayOf w s ≡ setupAt d s .active)
       → Matches (powered a w) a (poweredSetups ys)
-  unfolding powered poweredSetups setupOf
+  unfolding replays poweredFrom powered poweredSetups setupOf
   powered-up a w v r = of-four a _ v (one 1 (omega arith)) (one 2 (omega arith)) (one 3 (omega arith)) (one 4 (omega arith))
     where
       one : (s : ℕ) → IsSensor s → SensorMatches s (poweredSensor s (replayOf w s)) (poweredSetup s (getD ys (s - 1) (noSensor .setup) .active))
