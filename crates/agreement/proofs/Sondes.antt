@@ -8,14 +8,14 @@ use native.Mathlib.Omega.{arith}
 use lib.Dec.{eqb}
 use lib.Ieee.{Float}
 use lib.ListN.{length, getD, set, length-set}
-use lib.Seq.{getD-set-same, getD-set-other, set-getD}
-use borrow.Author.Tests.{eqb-true, eqb-false}
+use lib.Seq.{set-getD}
+use borrow.Author.Tests.{eqb-true}
 use Rattle.floats.specs.Floats.{finite}
 use Rattle.floats.proofs.Bools.{both}
 use Rattle.calibration.specs.Coefficients.{coefficientsOf}
 use Rattle.journal.specs.Journal.{IsSensor}
-use Rattle.journal.specs.Replay.{replayOf}
-use Rattle.journal.proofs.Tests.{sensor-cases}
+use Rattle.journal.specs.Replay.{replayOf, replays}
+use Rattle.journal.proofs.Tests.{sensor-cases, replaced-at}
 use Rattle.sensors.specs.Sensors.{freshSetup, freshSensor, validSetup, validSensor}
 use Rattle.sensors.specs.Changes.{calibratedAt}
 use Rattle.sensors.specs.declared.Setup.{Setup}
@@ -25,7 +25,7 @@ use Rattle.sensors.proofs.Changed.{calibrated-valid, calibrated-fits, measured-
 use Rattle.state.specs.Sonde.{sonde, freshSonde, noSensor, sensorAt, setupAt, withSensor, withSetup, measuredAt, addressValid, validSonde}
 use Rattle.state.specs.declared.Counters.{Counters}
 use Rattle.state.specs.declared.Sonde.{Sonde}
-use Rattle.calls.specs.Calls.{rawsFinite, poweredSetup, poweredSensor, powered}
+use Rattle.calls.specs.Calls.{rawsFinite, poweredSetup, poweredSensor, poweredFrom, powered}
 use Rattle.agreement.specs.Model.{setupOf, freshSetups, poweredSetups}
 
 -- sensor s beside its setup in the book
@@ -59,16 +59,7 @@ of-four {x1} {x2} {x3} {x4} {y1} {y2} {y3} {y4} address c v m1 m2 m3 m4 =
 
 -- ---- one of four replaced
 
--- the one with number t, where the one with number s was replaced
-pub replaced-at : {A : Type 0} (l : List A) (s t : ℕ) (v d : A) → length l ≡ 4 → IsSensor s → IsSensor t
-    → getD (set l (s - 1) v) (t - 1) d ≡ cond (eqb t s) v (getD l (t - 1) d)
-replaced-at l s t v d n k j = go (eqb t s) refl
-  where
-    go : (b : Bool) → eqb t s ≡ b → getD (set l (s - 1) v) (t - 1) d ≡ cond b v (getD l (t - 1) d)
-    go true e = rw (eqb-true t s e) (getD-set-same l (s - 1) v d (omega arith))
-    go false e = let o : t ≡ s → ⊥ = eqb-false t s e in getD-set-other l (s - 1) (t - 1) v d (λ q. o (omega arith))
-
--- so of setups
+-- the setup with number t, where the one with number s was replaced
 pub setup-replaced : (ys : List Setup) (s t : ℕ) (y : Setup) → length ys ≡ 4 → IsSensor s → IsSensor t
     → setupOf (set ys (s - 1) y) t ≡ cond (eqb t s) y (setupOf ys t)
 unfolding setupOf
@@ -181,7 +172,7 @@ module _ {d : Sonde} {address : ℕ} {ys : List Setup} (m : Matches d address ys
   -- a power-up from a volume whose replay is the calibrations in force
   pub powered-up : (a : ℕ) (w : List ℕ) → addressValid a ≡ true → ((s : ℕ) → IsSensor s → replayOf w s ≡ setupAt d s .active)
       → Matches (powered a w) a (poweredSetups ys)
-  unfolding powered poweredSetups setupOf
+  unfolding replays poweredFrom powered poweredSetups setupOf
   powered-up a w v r = of-four a _ v (one 1 (omega arith)) (one 2 (omega arith)) (one 3 (omega arith)) (one 4 (omega arith))
     where
       one : (s : ℕ) → IsSensor s → SensorMatches s (poweredSensor s (replayOf w s)) (poweredSetup s (getD ys (s - 1) (noSensor .setup) .active))
