@@ -127,7 +127,12 @@ fn fill(words: &mut [u16], sonde: Sonde, device: Device, start: u16)
         fill_device(words, device, start % 100);
         return;
     }
-    fill_sensor(words, owner, sonde.sensors[(owner as usize) - 1], start % 100);
+    fill_sensor(
+        words,
+        owner,
+        sonde.sensors[(owner as usize) - 1],
+        start % 100,
+    );
 }
 
 fn read(

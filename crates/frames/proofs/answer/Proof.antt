@@ -1,4 +1,5 @@
 -- `frames::answer` meets its contract. Assumes nothing.
+use native.Mathlib.Omega.{arith}
 use mathlib.Core.Path.{sym, _∙_}
 use Rattle.plans.proofs.Plans.{facts-of}
 use Rattle.rtu.specs.Frame.{overlay}
