@@ -84,11 +84,24 @@ pub struct Comparison {
     pub registers_compared: u64,
 }
 
-fn differ<T: PartialEq + std::fmt::Debug>(what: &str, twin: &T, library: &T) -> Result<(), String> {
+/// The answer, if both are the same.
+fn agree(twin: Answer, library: Answer) -> Result<Answer, String> {
+    if twin == library {
+        return Ok(twin);
+    }
+    Err(format!("the answer differs\n  twin:    {twin:?}\n  library: {library:?}"))
+}
+
+fn differ_bytes(what: &str, twin: &[u8], library: &[u8]) -> Result<(), String> {
     if twin == library {
         return Ok(());
     }
-    Err(format!("{what} differs\n  twin:    {twin:?}\n  library: {library:?}"))
+    let byte = (0..twin.len()).find(|&byte| twin[byte] != library[byte]).unwrap_or(0);
+    Err(format!(
+        "{what} differs at byte {byte}\n  twin:    {}\n  library: {}",
+        hex(twin),
+        hex(library)
+    ))
 }
 
 fn differ_sonde(what: &str, twin: &Sonde, library: &ffi::Sonde) -> Result<(), String> {
@@ -125,40 +138,31 @@ impl Comparison {
 
     /// Runs the call on both and compares: answer, whole reply buffer, whole volume, every field of the sonde, every register.
     pub fn run(&mut self, both: &mut Both, call: &Call, random: &mut Random) -> Result<Answer, String> {
-        let (twin, library) = self.execute(both, call, random)?;
-        differ("the answer", &twin, &library)?;
+        let answer = self.execute(both, call, random)?;
         differ_sonde("the sonde", &both.twin, &both.library)?;
         differ_volume(&both.twin_volume, &both.library_volume)?;
-        if let (Call::Begin { words }, 0) = (call, twin.number) {
+        if let (Call::Begin { words }, 0) = (call, answer.number) {
             both.lent = *words;
         }
         self.read_back(both, random)?;
-        Ok(twin)
+        Ok(answer)
     }
 
-    /// Both answers to the call.
-    fn execute(&mut self, both: &mut Both, call: &Call, random: &mut Random) -> Result<(Answer, Answer), String> {
-        let Both {
-            twin,
-            twin_volume,
-            library_volume,
-            ..
-        } = both;
+    /// The answer that both give to the call.
+    fn execute(&mut self, both: &mut Both, call: &Call, random: &mut Random) -> Result<Answer, String> {
+        let Both { twin, library, .. } = both;
+        let (twin_volume, library_volume) = (&mut both.twin_volume, &mut both.library_volume);
         match *call {
             Call::Fresh { address } => make(both, twin::fresh(address), library::fresh(address)),
             Call::PowerUp { address, words } => {
-                let made = (
-                    twin::power_up(address, &twin_volume[..words]),
-                    library::power_up(address, &library_volume[..words]),
-                );
-                make(both, made.0, made.1)
+                let twin = twin::power_up(address, &twin_volume[..words]);
+                let library = library::power_up(address, &library_volume[..words]);
+                make(both, twin, library)
             }
             Call::Begin { words } => {
-                let number = twin::begin(twin, &mut twin_volume[..words]);
-                Ok((
-                    Answer::of(number),
-                    Answer::of(library::begin(both.library, &mut library_volume[..words])),
-                ))
+                let twin = twin::begin(twin, &mut twin_volume[..words]);
+                let library = library::begin(*library, &mut library_volume[..words]);
+                agree(Answer::new(twin, 0), Answer::new(library, 0))
             }
             Call::Measure {
                 sensor,
@@ -167,58 +171,36 @@ impl Comparison {
                 second,
             } => {
                 let number = twin::measure(twin, sensor, present, first, second);
-                let made = library::measure(both.library, sensor, present, first, second);
-                both.library = made.sonde;
-                Ok((Answer::of(number), Answer::of(made.number)))
+                let made = library::measure(*library, sensor, present, first, second);
+                *library = made.sonde;
+                agree(Answer::new(number, 0), Answer::new(made.number, 0))
             }
             Call::Audit { words } => {
-                let (number, length) = twin::audit(twin, &twin_volume[..words]);
-                let audit = library::audit(both.library, &library_volume[..words]);
-                Ok((
-                    Answer { number, length },
-                    Answer {
-                        number: audit.number,
-                        length: audit.entries,
-                    },
-                ))
+                let (number, entries) = twin::audit(twin, &twin_volume[..words]);
+                let library = library::audit(*library, &library_volume[..words]);
+                agree(Answer::new(number, entries), Answer::new(library.number, library.entries))
             }
             Call::Frame(ref request) => self.frame(both, request, random),
         }
     }
 
-    fn frame(&mut self, both: &mut Both, request: &Request, random: &mut Random) -> Result<(Answer, Answer), String> {
-        let Request {
-            ref bytes,
-            reply,
-            words,
-            clock,
-        } = *request;
+    fn frame(&mut self, both: &mut Both, request: &Request, random: &mut Random) -> Result<Answer, String> {
         random.fill_bytes(&mut self.poison);
         self.twin_reply.copy_from_slice(&self.poison);
         self.library_reply.copy_from_slice(&self.poison);
-        let (number, length) = twin::frame(
-            &mut both.twin,
-            bytes,
-            &mut self.twin_reply[..reply],
-            &mut both.twin_volume[..words],
-            clock,
-        );
+        let (reply, words, clock) = (request.reply, request.words, request.clock);
+        let volume = &mut both.twin_volume[..words];
+        let (number, length) = twin::frame(&mut both.twin, &request.bytes, &mut self.twin_reply[..reply], volume, clock);
         let volume = &mut both.library_volume[..words];
-        let library = library::frame(both.library, bytes, &mut self.library_reply[..reply], volume, clock);
+        let library = library::frame(both.library, &request.bytes, &mut self.library_reply[..reply], volume, clock);
         both.library = library.sonde;
-        if self.twin_reply != self.library_reply {
-            let [twin, library] = [&self.twin_reply, &self.library_reply].map(|reply| hex(reply));
-            return Err(format!("the reply buffer differs\n  twin:    {twin}\n  library: {library}"));
-        }
+        let answer = agree(Answer::new(number, length), Answer::new(library.number, library.length))?;
+        differ_bytes(&format!("the reply buffer ({answer:?})"), &self.twin_reply, &self.library_reply)?;
         let past = usize::from(length);
-        differ("the reply buffer past the reply", &&self.twin_reply[past..], &&self.poison[past..])?;
-        Ok((
-            Answer { number, length },
-            Answer {
-                number: library.number,
-                length: library.length,
-            },
-        ))
+        if self.twin_reply[past..] != self.poison[past..] {
+            return Err(format!("both have written past the reply ({answer:?})"));
+        }
+        Ok(answer)
     }
 
     /// Reads every register on copies of both, and compares replies, sondes and volumes after it.
@@ -234,12 +216,9 @@ impl Comparison {
             let (number, length) = twin::frame(&mut twin, &bytes, &mut self.twin_reply, &mut self.twin_words[..words], clock);
             let answer = library::frame(library, &bytes, &mut self.library_reply, &mut self.library_words[..words], clock);
             library = answer.sonde;
-            let what = "a register that is read back";
-            differ(
-                what,
-                &(start, number, length, &self.twin_reply),
-                &(start, answer.number, answer.length, &self.library_reply),
-            )?;
+            let failed = |difference| format!("read back, {count} registers from {start}: {difference}");
+            agree(Answer::new(number, length), Answer::new(answer.number, answer.length)).map_err(failed)?;
+            differ_bytes("the reply buffer", &self.twin_reply, &self.library_reply).map_err(failed)?;
             self.agreed = number == 0;
             if !self.agreed {
                 break;
@@ -267,11 +246,28 @@ pub fn read_request(address: u8, start: u16, count: u16) -> [u8; 8] {
 }
 
 /// Takes over the sonde of fresh or power-up: compared even if refused, it goes on only if made.
-fn make(both: &mut Both, (number, sonde): (u8, Sonde), library: ffi::Made) -> Result<(Answer, Answer), String> {
+fn make(both: &mut Both, (number, sonde): (u8, Sonde), library: ffi::Made) -> Result<Answer, String> {
+    let answer = agree(Answer::new(number, 0), Answer::new(library.number, 0))?;
     differ_sonde("the sonde handed back", &sonde, &library.sonde)?;
     if number == 0 {
         both.twin = sonde;
         both.library = library.sonde;
     }
-    Ok((Answer::of(number), Answer::of(library.number)))
+    Ok(answer)
+}
+
+#[cfg(test)]
+mod tests {
+    use super::*;
+
+    #[test]
+    fn runs_are_the_map() {
+        for register in 0..=u16::MAX {
+            let read = RUNS
+                .iter()
+                .filter(|(start, count)| (*start..start + count).contains(&register))
+                .count();
+            assert_eq!(read, usize::from(twin::map::locate(register).is_some()), "register {register}");
+        }
+    }
 }

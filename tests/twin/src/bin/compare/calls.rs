@@ -108,8 +108,7 @@ pub struct Answer {
 }
 
 impl Answer {
-    /// Of a call without a length.
-    pub fn of(number: u8) -> Answer {
-        Answer { number, length: 0 }
+    pub fn new(number: u8, length: u16) -> Answer {
+        Answer { number, length }
     }
 }

@@ -123,46 +123,18 @@ const SETTINGS_NAMES: [&str; SETTINGS] = [
 ];
 
 fn settings_bits(settings: &Settings) -> [u32; SETTINGS] {
-    let Settings {
-        calibrating,
-        active,
-        trial,
-        method,
-        points,
-        next,
-        level_id,
-        units,
-        sentinels,
-    } = settings;
-    let [a, b, c] = active.coefficients.map(f32::to_bits);
-    let [d, e, f] = trial.map(f32::to_bits);
-    let [x1, y1, x2, y2] = points.map(f32::to_bits);
-    let [u, v, w] = units.map(u32::from);
-    let [r, s, t] = sentinels.map(f32::to_bits);
-    let [method, level_id] = [*method, *level_id].map(u32::from);
-    [
-        u32::from(*calibrating),
-        a,
-        b,
-        c,
-        active.time,
-        d,
-        e,
-        f,
-        method,
-        x1,
-        y1,
-        x2,
-        y2,
-        *next,
-        level_id,
-        u,
-        v,
-        w,
-        r,
-        s,
-        t,
-    ]
+    let mut bits = [0; SETTINGS];
+    bits[0] = u32::from(settings.calibrating);
+    bits[1..4].copy_from_slice(&settings.active.coefficients.map(f32::to_bits));
+    bits[4] = settings.active.time;
+    bits[5..8].copy_from_slice(&settings.trial.map(f32::to_bits));
+    bits[8] = u32::from(settings.method);
+    bits[9..13].copy_from_slice(&settings.points.map(f32::to_bits));
+    bits[13] = settings.next;
+    bits[14] = u32::from(settings.level_id);
+    bits[15..18].copy_from_slice(&settings.units.map(u32::from));
+    bits[18..21].copy_from_slice(&settings.sentinels.map(f32::to_bits));
+    bits
 }
 
 /// The first field of the settings that differs, with both values.

@@ -112,11 +112,12 @@ impl Corruption {
         matches!(self, SpareUnits | SpareLevelId | Mode | TrialThird | FreeWord)
     }
 
-    /// Whether sonde and volume may still be valid and in agreement: what was picked can be listed, or overruled by a later entry.
+    /// Whether sonde and volume may still be valid and in agreement: what was picked can be listed, overruled by a later entry, or a length
+    /// of the same capacity.
     pub fn uncertain(self) -> bool {
         let listed = matches!(self, Units | EntryMethod | InUse);
         let overruled = matches!(self, OpeningCoefficient | OpeningTime | EntryTime | EntryCoefficient | EntryPoint);
-        listed || overruled || matches!(self, AnyLength | WordLonger | WordShorter | EntryLonger)
+        listed || overruled || matches!(self, AnyLength | WordLonger | WordShorter | EntryLonger | EntryShorter)
     }
 
     /// Whether the sonde or the volume stays valid by itself.
@@ -178,7 +179,7 @@ fn flip_float(value: &mut f32, random: &mut Random) {
 pub fn corrupt_volume(both: &mut Both, corruption: Corruption, random: &mut Random) -> bool {
     let lent = both.lent;
     let words = match corruption {
-        AnyLength => random.pick(&[0, 1, 2, 3, 16, 47, 63, 64, 65, 86, 87, 88, 89, 110, 111, 112, 113]),
+        AnyLength => any_length(random, both.twin_volume.len()),
         WordLonger => lent + 1,
         WordShorter => lent - 1,
         EntryLonger => lent + ENTRY_WORDS,
@@ -194,13 +195,25 @@ pub fn corrupt_volume(both: &mut Both, corruption: Corruption, random: &mut Rand
     done
 }
 
+/// Up to two words beside each length at which the capacity changes, or a length without a whole header.
+fn any_length(random: &mut Random, room: usize) -> usize {
+    let edge = random.pick(&[64, 88, 112, 24040, 24064]) + random.between(0, 4) - 2;
+    let short = random.below(HEADER_WORDS);
+    if edge <= room {
+        random.pick(&[edge, edge, edge, short])
+    } else {
+        short
+    }
+}
+
 /// Header words that have to be 0.
 const HEADER_ZEROS: [usize; 21] = [3, 12, 13, 14, 15, 48, 49, 50, 51, 52, 53, 54, 55, 56, 57, 58, 59, 60, 61, 62, 63];
 
 fn corrupt_words(volume: &mut [u16], corruption: Corruption, random: &mut Random) -> bool {
     let in_use = usize::from(volume[2]);
     match corruption {
-        AnyWords => any_words(volume, random),
+        AnyLength if random.chance(70) => {}
+        AnyWords | AnyLength => any_words(volume, random),
         FreeWord => return corrupt_free_word(volume, in_use, random),
         Version => change(&mut volume[0], random),
         CapacityWord => change(&mut volume[1], random),

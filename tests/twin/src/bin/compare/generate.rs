@@ -285,7 +285,7 @@ impl Generator {
         }
     }
 
-    /// One word by function 6, 16 or 22; the mask takes the value to its place from 0 or, for a command, from 1.
+    /// One word by function 6, 16 or 22. The bits that a mask keeps are 0 in the value, or bit 0, which is 1 in a command register in mode.
     fn write_word(&mut self, register: u16, value: u16) -> Vec<u8> {
         let random = &mut self.random;
         match random.below(10) {

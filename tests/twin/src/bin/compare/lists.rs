@@ -25,7 +25,7 @@ enum Shape {
     Wide,
     /// A journal filled up to 1000 entries and beyond.
     Long,
-    /// Calls on small volumes, each followed by calls on copies with something wrong.
+    /// Calls, mostly on small volumes, each followed by calls on a copy with something wrong.
     Corrupted,
 }
 
@@ -188,7 +188,12 @@ impl Lists {
     }
 
     fn corrupted(&mut self, generator: &mut Generator) -> Result<(), String> {
-        let words = small_volume(&mut generator.random);
+        let wide = generator.random.chance(3);
+        let words = if wide {
+            MOST_WORDS + ENTRY_WORDS + 2
+        } else {
+            small_volume(&mut generator.random)
+        };
         let mut both = Both::new(words, &mut generator.random);
         for number in 0..generator.random.between(20, 200) {
             let call = generator.call(&both);

@@ -65,6 +65,9 @@ fn parse(mut arguments: impl Iterator<Item = String>) -> Result<Option<Options>,
             _ => options.list = Some(number),
         }
     }
+    if options.calls == 0 {
+        return Err("--calls has to be at least 1".to_string());
+    }
     Ok(Some(options))
 }
 
