@@ -1,0 +1,114 @@
+//! A call with its arguments, as both implementations get it.
+
+use std::fmt;
+
+#[derive(Clone, Copy, Debug, PartialEq, Eq, PartialOrd, Ord)]
+pub enum Kind {
+    Fresh,
+    Begin,
+    PowerUp,
+    Measure,
+    Frame,
+    Audit,
+}
+
+/// `words` is how much of the volume is lent, from its beginning.
+#[derive(Clone)]
+pub enum Call {
+    Fresh {
+        address: u8,
+    },
+    Begin {
+        words: usize,
+    },
+    PowerUp {
+        address: u8,
+        words: usize,
+    },
+    Measure {
+        sensor: u8,
+        present: bool,
+        first: f32,
+        second: f32,
+    },
+    Frame(Request),
+    Audit {
+        words: usize,
+    },
+}
+
+/// A frame, and the bytes of the reply buffer.
+#[derive(Clone)]
+pub struct Request {
+    pub bytes: Vec<u8>,
+    pub reply: usize,
+    pub words: usize,
+    pub clock: u32,
+}
+
+impl Call {
+    pub fn kind(&self) -> Kind {
+        match self {
+            Call::Fresh { .. } => Kind::Fresh,
+            Call::Begin { .. } => Kind::Begin,
+            Call::PowerUp { .. } => Kind::PowerUp,
+            Call::Measure { .. } => Kind::Measure,
+            Call::Frame(_) => Kind::Frame,
+            Call::Audit { .. } => Kind::Audit,
+        }
+    }
+}
+
+impl fmt::Display for Call {
+    fn fmt(&self, f: &mut fmt::Formatter) -> fmt::Result {
+        match self {
+            Call::Fresh { address } => write!(f, "fresh(address {address})"),
+            Call::Begin { words } => write!(f, "begin({words} words)"),
+            Call::PowerUp { address, words } => write!(f, "power_up(address {address}, {words} words)"),
+            Call::Measure {
+                sensor,
+                present,
+                first,
+                second,
+            } => {
+                let (first_bits, second_bits) = (first.to_bits(), second.to_bits());
+                write!(
+                    f,
+                    "measure(sensor {sensor}, present {present}, {first:e} = {first_bits:#010X}, {second:e} = {second_bits:#010X})"
+                )
+            }
+            Call::Frame(Request {
+                bytes,
+                reply,
+                words,
+                clock,
+            }) => {
+                write!(
+                    f,
+                    "frame({} bytes {}, reply buffer {reply}, {words} words, clock {clock})",
+                    bytes.len(),
+                    hex(bytes)
+                )
+            }
+            Call::Audit { words } => write!(f, "audit({words} words)"),
+        }
+    }
+}
+
+pub fn hex(bytes: &[u8]) -> String {
+    let digits: Vec<String> = bytes.iter().map(|byte| format!("{byte:02X}")).collect();
+    format!("[{}]", digits.join(" "))
+}
+
+/// What a call gives beside the sonde, the reply and the volume: `length` is a reply's length, or the entries in use of an audit.
+#[derive(Clone, Copy, Debug, PartialEq, Eq)]
+pub struct Answer {
+    pub number: u8,
+    pub length: u16,
+}
+
+impl Answer {
+    pub fn new(number: u8, length: u16) -> Answer {
+        Answer { number, length }
+    }
+}

@@ -1,0 +1,172 @@
+//! The library's sonde and the twin's, turned into one another, and compared field by field, floats by their bits.
+
+use sonde::ffi;
+use twin::calibration::Calibration;
+use twin::state::{Counters, Sample, Settings, Sonde};
+
+pub fn to_library(sonde: &Sonde) -> ffi::Sonde {
+    let Counters { good, bad, exceptions } = sonde.counters;
+    ffi::Sonde {
+        address: sonde.address,
+        sensors: std::array::from_fn(|i| ffi::Sensor {
+            setup: setup(&sonde.settings[i]),
+            sample: sample(&sonde.samples[i]),
+        }),
+        counters: ffi::Counters { good, bad, exceptions },
+    }
+}
+
+fn setup(settings: &Settings) -> ffi::Setup {
+    let [first, second, third] = settings.active.coefficients;
+    let [trial_first, trial_second, trial_third] = settings.trial;
+    let [x1, y1, x2, y2] = settings.points;
+    let parameter = |i: usize| ffi::Parameter {
+        units: settings.units[i],
+        sentinel: settings.sentinels[i],
+    };
+    ffi::Setup {
+        calibrating: settings.calibrating,
+        active: ffi::Calibration {
+            first,
+            second,
+            third,
+            time: settings.active.time,
+        },
+        trial: ffi::Coefficients {
+            first: trial_first,
+            second: trial_second,
+            third: trial_third,
+        },
+        method: settings.method,
+        points: ffi::Points { x1, y1, x2, y2 },
+        next: settings.next,
+        level: settings.level_id,
+        first: parameter(0),
+        second: parameter(1),
+        third: parameter(2),
+    }
+}
+
+fn sample(sample: &Sample) -> ffi::Sample {
+    ffi::Sample {
+        present: sample.present,
+        first: sample.raws[0],
+        second: sample.raws[1],
+    }
+}
+
+pub fn from_library(sonde: &ffi::Sonde) -> Sonde {
+    let ffi::Counters { good, bad, exceptions } = sonde.counters;
+    Sonde {
+        address: sonde.address,
+        settings: std::array::from_fn(|i| settings(&sonde.sensors[i].setup)),
+        samples: std::array::from_fn(|i| {
+            let ffi::Sample { present, first, second } = sonde.sensors[i].sample;
+            Sample {
+                present,
+                raws: [first, second],
+            }
+        }),
+        counters: Counters { good, bad, exceptions },
+    }
+}
+
+fn settings(setup: &ffi::Setup) -> Settings {
+    let ffi::Calibration {
+        first,
+        second,
+        third,
+        time,
+    } = setup.active;
+    let ffi::Points { x1, y1, x2, y2 } = setup.points;
+    let parameters = [setup.first, setup.second, setup.third];
+    Settings {
+        calibrating: setup.calibrating,
+        active: Calibration {
+            coefficients: [first, second, third],
+            time,
+        },
+        trial: [setup.trial.first, setup.trial.second, setup.trial.third],
+        method: setup.method,
+        points: [x1, y1, x2, y2],
+        next: setup.next,
+        level_id: setup.level,
+        units: parameters.map(|parameter| parameter.units),
+        sentinels: parameters.map(|parameter| parameter.sentinel),
+    }
+}
+
+/// Fields of a sensor's settings.
+const SETTINGS: usize = 21;
+const SETTINGS_NAMES: [&str; SETTINGS] = [
+    "calibrating",
+    "active first",
+    "active second",
+    "active third",
+    "active time",
+    "trial first",
+    "trial second",
+    "trial third",
+    "method",
+    "x1",
+    "y1",
+    "x2",
+    "y2",
+    "next",
+    "level id",
+    "units 1",
+    "units 2",
+    "units 3",
+    "sentinel 1",
+    "sentinel 2",
+    "sentinel 3",
+];
+
+fn settings_bits(settings: &Settings) -> [u32; SETTINGS] {
+    let mut bits = [0; SETTINGS];
+    bits[0] = u32::from(settings.calibrating);
+    bits[1..4].copy_from_slice(&settings.active.coefficients.map(f32::to_bits));
+    bits[4] = settings.active.time;
+    bits[5..8].copy_from_slice(&settings.trial.map(f32::to_bits));
+    bits[8] = u32::from(settings.method);
+    bits[9..13].copy_from_slice(&settings.points.map(f32::to_bits));
+    bits[13] = settings.next;
+    bits[14] = u32::from(settings.level_id);
+    bits[15..18].copy_from_slice(&settings.units.map(u32::from));
+    bits[18..21].copy_from_slice(&settings.sentinels.map(f32::to_bits));
+    bits
+}
+
+/// The first field of the settings that differs, with both values.
+pub fn settings_difference(left: &[Settings; 4], right: &[Settings; 4]) -> Option<String> {
+    let pairs = left.iter().zip(right).enumerate();
+    pairs
+        .map(|(i, (l, r))| (i, settings_bits(l), settings_bits(r)))
+        .find(|(_, l, r)| l != r)
+        .map(|(i, l, r)| {
+            let field = (0..SETTINGS).find(|&field| l[field] != r[field]).unwrap_or(0);
+            format!(
+                "sensor {}, {}: {:#010X} and {:#010X}",
+                i + 1,
+                SETTINGS_NAMES[field],
+                l[field],
+                r[field]
+            )
+        })
+}
+
+/// The first field that differs, with both values.
+pub fn difference(left: &Sonde, right: &Sonde) -> Option<String> {
+    if left.address != right.address {
+        return Some(format!("address: {} and {}", left.address, right.address));
+    }
+    if left.counters != right.counters {
+        return Some(format!("counters: {:?} and {:?}", left.counters, right.counters));
+    }
+    for (i, (l, r)) in left.samples.iter().zip(&right.samples).enumerate() {
+        if l.present != r.present || l.raws.map(f32::to_bits) != r.raws.map(f32::to_bits) {
+            return Some(format!("sensor {}, sample: {l:?} and {r:?}", i + 1));
+        }
+    }
+    settings_difference(&left.settings, &right.settings)
+}

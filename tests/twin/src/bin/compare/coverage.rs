@@ -1,0 +1,506 @@
+//! What the compared calls have met, and what they have to have met.
+
+use crate::both::{Both, IMAGE};
+use crate::calls::{Answer, Call, Kind, Request};
+use crate::corrupt::{Corruption, OF_SONDE, OF_VOLUME};
+use std::collections::BTreeMap;
+use std::num::FpCategory;
+use twin::calibration::{candidate, within_limits, LEVEL, LIMITS, ONE_POINT, TWO_POINTS};
+use twin::floats::join;
+use twin::frames::{judge, Change, Verdict, BROADCAST, FRAME_LEAST, FRAME_MOST, JOURNAL_FULL, OUT_OF_LIMITS};
+use twin::map::{locate, Field, LEVEL_IDS, LEVEL_PARAMETER, PARAMETERS};
+use twin::readings::{GOOD, NOT_FINITE};
+use twin::state::{Settings, Sonde};
+use twin::volume::capacity;
+
+#[derive(Clone, Copy, Debug, PartialEq, Eq, PartialOrd, Ord)]
+pub enum Counter {
+    Good,
+    Bad,
+    Exceptions,
+}
+
+#[derive(Clone, Copy, Debug, PartialEq, Eq, PartialOrd, Ord)]
+pub enum Written {
+    PlusZero,
+    MinusZero,
+    Subnormal,
+    Normal,
+    PlusInfinity,
+    MinusInfinity,
+    QuietNan,
+    SignallingNan,
+}
+
+/// Why a candidate has no second coefficient within limits.
+#[derive(Clone, Copy, Debug, PartialEq, Eq, PartialOrd, Ord)]
+pub enum Division {
+    ByPlusZero,
+    ByMinusZero,
+    Equal,
+    Overflow,
+    FirstOverflow,
+}
+
+/// Sensors, coefficients and parameters count from 0.
+#[derive(Clone, Copy, Debug, PartialEq, Eq, PartialOrd, Ord)]
+pub enum Item {
+    Number {
+        call: Kind,
+        number: u8,
+    },
+    TooShort,
+    TooLong,
+    WrongChecksum,
+    Foreign,
+    ReadAtZero,
+    Code {
+        code: u8,
+        broadcast: bool,
+    },
+    Accepted {
+        function: u8,
+        broadcast: bool,
+    },
+    Update {
+        sensor: usize,
+        method: u16,
+    },
+    UpdateBy {
+        function: u8,
+        broadcast: bool,
+    },
+    Limit {
+        sensor: usize,
+        coefficient: usize,
+        high: bool,
+        inside: bool,
+    },
+    ThirdRefused {
+        sensor: usize,
+    },
+    Division {
+        method: u16,
+        division: Division,
+    },
+    Full {
+        capacity: usize,
+    },
+    RefusedFull {
+        capacity: usize,
+    },
+    Saturated(Counter),
+    Written(Written),
+    Quality {
+        sensor: usize,
+        parameter: usize,
+        quality: u16,
+    },
+    Units {
+        sensor: usize,
+        parameter: usize,
+        units: u16,
+    },
+    LevelId {
+        id: u16,
+        calibrating: bool,
+    },
+    ResistivityAtZero {
+        calibrating: bool,
+    },
+    PowerUpWithEntries,
+    BeginAgain,
+    BeginCalibrating,
+    AuditWithEntries,
+    Corrupted {
+        corruption: Corruption,
+        call: Kind,
+        number: u8,
+    },
+}
+
+#[derive(Default)]
+pub struct Coverage(BTreeMap<Item, u64>);
+
+/// What there was before a call.
+pub struct Before {
+    pub sonde: Sonde,
+    pub in_use: usize,
+    pub lent: usize,
+}
+
+impl Before {
+    pub fn new(both: &Both) -> Before {
+        let in_use = if both.lent > 2 { usize::from(both.twin_volume[2]) } else { 0 };
+        Before {
+            sonde: both.twin,
+            in_use,
+            lent: both.lent,
+        }
+    }
+}
+
+impl Coverage {
+    pub fn note(&mut self, item: Item) {
+        *self.0.entry(item).or_default() += 1;
+    }
+
+    pub fn merge(&mut self, other: &Coverage) {
+        for (item, count) in &other.0 {
+            *self.0.entry(*item).or_default() += count;
+        }
+    }
+
+    /// Notes all that an answered call met.
+    pub fn note_call(&mut self, before: &Before, call: &Call, answer: Answer) {
+        self.note(Item::Number {
+            call: call.kind(),
+            number: answer.number,
+        });
+        if answer.number != 0 {
+            return;
+        }
+        match call {
+            Call::Frame(request) => self.note_frame(before, request),
+            Call::PowerUp { .. } if before.in_use > 0 => self.note(Item::PowerUpWithEntries),
+            Call::Audit { .. } if answer.length > 0 => self.note(Item::AuditWithEntries),
+            Call::Begin { .. } => {
+                if before.lent > 0 && before.sonde.settings.iter().any(|settings| settings.active.time != 0) {
+                    self.note(Item::BeginAgain);
+                }
+                if before.sonde.settings.iter().any(|settings| settings.calibrating) {
+                    self.note(Item::BeginCalibrating);
+                }
+            }
+            _ => {}
+        }
+    }
+
+    fn note_frame(&mut self, before: &Before, request: &Request) {
+        let bytes = &request.bytes;
+        let capacity = capacity(request.words);
+        let verdict = judge(before.sonde.address, &before.sonde.settings, before.in_use == capacity, bytes);
+        self.note_counters(before, &verdict);
+        let broadcast = bytes.first() == Some(&BROADCAST);
+        match verdict {
+            Verdict::Bad if bytes.len() < FRAME_LEAST => self.note(Item::TooShort),
+            Verdict::Bad if bytes.len() > FRAME_MOST => self.note(Item::TooLong),
+            Verdict::Bad => self.note(Item::WrongChecksum),
+            Verdict::Foreign => self.note(Item::Foreign),
+            Verdict::Ignored => self.note(Item::ReadAtZero),
+            Verdict::Read { .. } => self.note(Item::Accepted {
+                function: bytes[1],
+                broadcast,
+            }),
+            Verdict::Refused(code) => {
+                self.note(Item::Code { code, broadcast });
+                self.note_refused(before, code, capacity, bytes);
+            }
+            Verdict::Write { sensor, change } => {
+                self.note(Item::Accepted {
+                    function: bytes[1],
+                    broadcast,
+                });
+                if let Change::Update(_) = change {
+                    self.note_update(before, sensor, capacity, bytes);
+                }
+            }
+        }
+        self.note_written(bytes);
+    }
+
+    fn note_counters(&mut self, before: &Before, verdict: &Verdict) {
+        let counters = before.sonde.counters;
+        match verdict {
+            Verdict::Bad if counters.bad == u16::MAX => self.note(Item::Saturated(Counter::Bad)),
+            Verdict::Bad | Verdict::Foreign => {}
+            Verdict::Refused(_) if counters.exceptions == u16::MAX => self.note(Item::Saturated(Counter::Exceptions)),
+            _ if counters.good == u16::MAX => self.note(Item::Saturated(Counter::Good)),
+            _ => {}
+        }
+    }
+
+    fn note_update(&mut self, before: &Before, sensor: usize, capacity: usize, bytes: &[u8]) {
+        let settings = &before.sonde.settings[sensor];
+        self.note(Item::Update {
+            sensor,
+            method: settings.method,
+        });
+        self.note(Item::UpdateBy {
+            function: bytes[1],
+            broadcast: bytes[0] == BROADCAST,
+        });
+        if before.in_use + 1 == capacity {
+            self.note(Item::Full { capacity });
+        }
+        let coefficients = candidate(settings.method, &settings.trial, &settings.points);
+        for (coefficient, limits) in LIMITS[sensor].iter().enumerate() {
+            let on = |limit: f32| coefficients[coefficient] == limit;
+            if let Some((low, high)) = limits.filter(|&(low, high)| on(low) || on(high)) {
+                self.note(Item::Limit {
+                    sensor,
+                    coefficient,
+                    high: !on(low) && on(high),
+                    inside: true,
+                });
+            }
+        }
+    }
+
+    fn note_refused(&mut self, before: &Before, code: u8, capacity: usize, bytes: &[u8]) {
+        let command = |bytes: &[u8]| usize::from(bytes[2]) << 8 | usize::from(bytes[3]);
+        match code {
+            JOURNAL_FULL => self.note(Item::RefusedFull { capacity }),
+            OUT_OF_LIMITS => {
+                let sensor = command(bytes) / 100 - 1;
+                self.note_out_of_limits(sensor, &before.sonde.settings[sensor]);
+            }
+            _ => {}
+        }
+    }
+
+    fn note_out_of_limits(&mut self, sensor: usize, settings: &Settings) {
+        let coefficients = candidate(settings.method, &settings.trial, &settings.points);
+        for (coefficient, limits) in LIMITS[sensor].iter().enumerate() {
+            // The others have to be within their limits, so that this one alone is the reason.
+            let alone = |limit: f32| {
+                let mut others = coefficients;
+                others[coefficient] = limit;
+                within_limits(sensor, &others)
+            };
+            match *limits {
+                Some((low, _)) if coefficients[coefficient] == low.next_down() && alone(low) => {
+                    self.note(Item::Limit {
+                        sensor,
+                        coefficient,
+                        high: false,
+                        inside: false,
+                    });
+                }
+                Some((_, high)) if coefficients[coefficient] == high.next_up() && alone(high) => {
+                    self.note(Item::Limit {
+                        sensor,
+                        coefficient,
+                        high: true,
+                        inside: false,
+                    });
+                }
+                None if alone(0.0) => self.note(Item::ThirdRefused { sensor }),
+                _ => {}
+            }
+        }
+        if let Some(division) = division(settings, coefficients) {
+            self.note(Item::Division {
+                method: settings.method,
+                division,
+            });
+        }
+    }
+
+    /// The class of a float that a frame writes to a whole field.
+    fn note_written(&mut self, bytes: &[u8]) {
+        if bytes.len() != 13 || bytes[1] != 16 {
+            return;
+        }
+        let word = |at: usize| u16::from_be_bytes([bytes[at], bytes[at + 1]]);
+        let float_field = |field| matches!(field, Field::Coefficient(_) | Field::Point(_) | Field::Sentinel(_));
+        if locate(word(2)).is_some_and(|place| place.start == word(2) && float_field(place.field)) {
+            self.note(Item::Written(class(f32::from_bits(join(word(7), word(9))))));
+        }
+    }
+
+    /// Notes what the registers that were read back show.
+    pub fn note_registers(&mut self, sonde: &Sonde, registers: &[u16; IMAGE]) {
+        for (sensor, parameters) in PARAMETERS.iter().enumerate() {
+            for parameter in 0..parameters.len() {
+                let at = 100 * (sensor + 1) + 30 + 8 * parameter;
+                let (units, quality) = (registers[at + 3], registers[at + 4]);
+                self.note(Item::Quality {
+                    sensor,
+                    parameter,
+                    quality,
+                });
+                if quality == GOOD {
+                    self.note(Item::Units { sensor, parameter, units });
+                }
+            }
+        }
+        let (level, calibrating) = (registers[340], registers[305] == 1);
+        if registers[342] != NOT_FINITE && sonde.samples[LEVEL].present {
+            self.note(Item::LevelId { id: level, calibrating });
+        }
+        if sonde.samples[0].present && join(registers[138], registers[139]) << 1 == 0 {
+            self.note(Item::ResistivityAtZero {
+                calibrating: registers[105] == 1,
+            });
+        }
+    }
+
+    /// The table of counts, and what was required but never met.
+    pub fn report(&self) -> (String, Vec<Item>) {
+        let table = self.0.iter().map(|(item, count)| format!("{count:>12}  {item:?}\n")).collect();
+        let missing = required().into_iter().filter(|item| !self.0.contains_key(item)).collect();
+        (table, missing)
+    }
+}
+
+fn class(value: f32) -> Written {
+    match (value.classify(), value.is_sign_negative()) {
+        (FpCategory::Zero, false) => Written::PlusZero,
+        (FpCategory::Zero, true) => Written::MinusZero,
+        (FpCategory::Subnormal, _) => Written::Subnormal,
+        (FpCategory::Normal, _) => Written::Normal,
+        (FpCategory::Infinite, false) => Written::PlusInfinity,
+        (FpCategory::Infinite, true) => Written::MinusInfinity,
+        (FpCategory::Nan, _) if value.to_bits() & 0x0040_0000 != 0 => Written::QuietNan,
+        (FpCategory::Nan, _) => Written::SignallingNan,
+    }
+}
+
+fn division(settings: &Settings, coefficients: [f32; 3]) -> Option<Division> {
+    let [x1, _, x2, _] = settings.points;
+    match settings.method {
+        ONE_POINT if x1.to_bits() == 0 => Some(Division::ByPlusZero),
+        ONE_POINT if x1 == 0.0 => Some(Division::ByMinusZero),
+        TWO_POINTS if x1 == x2 => Some(Division::Equal),
+        ONE_POINT | TWO_POINTS if !coefficients[1].is_finite() => Some(Division::Overflow),
+        TWO_POINTS if !coefficients[0].is_finite() => Some(Division::FirstOverflow),
+        _ => None,
+    }
+}
+
+/// What a run has to meet.
+fn required() -> Vec<Item> {
+    let mut items = vec![
+        Item::TooShort,
+        Item::TooLong,
+        Item::WrongChecksum,
+        Item::Foreign,
+        Item::ReadAtZero,
+        Item::PowerUpWithEntries,
+        Item::BeginAgain,
+        Item::BeginCalibrating,
+        Item::AuditWithEntries,
+    ];
+    items.extend(required_answers());
+    items.extend(required_updates());
+    items.extend(required_readings());
+    items.extend(required_corruptions());
+    items
+}
+
+/// Each corruption, with every call that looks at what is wrong.
+fn required_corruptions() -> Vec<Item> {
+    let mut items = Vec::new();
+    let of_sonde = OF_SONDE.map(|corruption| (corruption, &[Kind::Begin, Kind::Measure][..]));
+    let of_volume = OF_VOLUME.map(|corruption| (corruption, &[Kind::PowerUp][..]));
+    for (corruption, calls) in of_sonde.into_iter().chain(of_volume) {
+        let number = if corruption.harmless() { 0 } else { 4 };
+        items.extend([Kind::Frame, Kind::Audit].map(|call| Item::Corrupted { corruption, call, number }));
+        let number = if corruption.disagreement() { 0 } else { number };
+        items.extend(calls.iter().map(|&call| Item::Corrupted { corruption, call, number }));
+    }
+    for corruption in [Corruption::WordLonger, Corruption::WordShorter] {
+        items.push(Item::Corrupted {
+            corruption,
+            call: Kind::Audit,
+            number: 0,
+        });
+    }
+    items
+}
+
+fn required_answers() -> Vec<Item> {
+    let numbers: [(Kind, &[u8]); 6] = [
+        (Kind::Fresh, &[0, 1]),
+        (Kind::Begin, &[0, 2, 4]),
+        (Kind::PowerUp, &[0, 1, 4]),
+        (Kind::Measure, &[0, 4, 5, 6]),
+        (Kind::Frame, &[0, 3, 4]),
+        (Kind::Audit, &[0, 4]),
+    ];
+    let mut items: Vec<Item> = numbers
+        .iter()
+        .flat_map(|(call, numbers)| numbers.iter().map(|&number| Item::Number { call: *call, number }))
+        .collect();
+    for broadcast in [false, true] {
+        items.extend([1, 3, 2, 0x80, 0xC2, 0x92, 0x84, 0x97, 0xC0].map(|code| Item::Code { code, broadcast }));
+        items.extend([6, 16, 22].map(|function| Item::Accepted { function, broadcast }));
+        items.extend([6, 16, 22].map(|function| Item::UpdateBy { function, broadcast }));
+    }
+    items.push(Item::Accepted {
+        function: 3,
+        broadcast: false,
+    });
+    items.extend([Counter::Good, Counter::Bad, Counter::Exceptions].map(Item::Saturated));
+    use Written::*;
+    items.extend(
+        [
+            PlusZero,
+            MinusZero,
+            Subnormal,
+            Normal,
+            PlusInfinity,
+            MinusInfinity,
+            QuietNan,
+            SignallingNan,
+        ]
+        .map(Item::Written),
+    );
+    items
+}
+
+fn required_updates() -> Vec<Item> {
+    let mut items = Vec::new();
+    for (sensor, limits) in LIMITS.iter().enumerate() {
+        let methods = if sensor == LEVEL { 1 } else { 3 };
+        items.extend((0..methods).map(|method| Item::Update { sensor, method }));
+        for (coefficient, limits) in limits.iter().enumerate() {
+            let sides = [(false, false), (false, true), (true, false), (true, true)];
+            match limits {
+                Some(_) => items.extend(sides.map(|(high, inside)| Item::Limit {
+                    sensor,
+                    coefficient,
+                    high,
+                    inside,
+                })),
+                None => items.push(Item::ThirdRefused { sensor }),
+            }
+        }
+    }
+    items.extend([1, 2, 1000].map(|capacity| Item::Full { capacity }));
+    items.extend([1, 2, 1000].map(|capacity| Item::RefusedFull { capacity }));
+    let one = [Division::ByPlusZero, Division::ByMinusZero, Division::Overflow];
+    let two = [Division::Equal, Division::Overflow, Division::FirstOverflow];
+    items.extend(one.map(|division| Item::Division {
+        method: ONE_POINT,
+        division,
+    }));
+    items.extend(two.map(|division| Item::Division {
+        method: TWO_POINTS,
+        division,
+    }));
+    items
+}
+
+fn required_readings() -> Vec<Item> {
+    let mut items = Vec::new();
+    for (sensor, parameters) in PARAMETERS.iter().enumerate() {
+        for (parameter, fixed) in parameters.iter().enumerate() {
+            // No finite pressure and no coefficients within limits take the level, which has no conversion, out of the finite floats.
+            let always_finite = sensor == LEVEL && parameter == LEVEL_PARAMETER;
+            let qualities = [0, 3, 6, 7].into_iter().filter(|&quality| quality != NOT_FINITE || !always_finite);
+            items.extend(qualities.map(|quality| Item::Quality {
+                sensor,
+                parameter,
+                quality,
+            }));
+            items.extend(fixed.units.iter().map(|&units| Item::Units { sensor, parameter, units }));
+        }
+    }
+    for calibrating in [false, true] {
+        items.extend(LEVEL_IDS.map(|id| Item::LevelId { id, calibrating }));
+        items.push(Item::ResistivityAtZero { calibrating });
+    }
+    items
+}

@@ -1,0 +1,310 @@
+//! Lists of calls. After each call everything is compared; a clean list is also held to the control book (demand 3).
+
+use crate::both::{Both, Comparison};
+use crate::calls::{Answer, Call, Kind, Request};
+use crate::convert::settings_difference;
+use crate::corrupt::{corrupt_sonde, corrupt_volume, Corruption, OF_SONDE, OF_VOLUME};
+use crate::coverage::{Before, Coverage, Item};
+use crate::generate::{makes_sonde, Generator};
+use crate::random::Random;
+use std::collections::VecDeque;
+use twin::book::Book;
+use twin::map::{ENTER, UPDATE};
+use twin::volume::{replay, CAPACITY_MOST, ENTRY_WORDS, HEADER_WORDS};
+
+/// Words of a volume of full capacity.
+const MOST_WORDS: usize = HEADER_WORDS + ENTRY_WORDS * CAPACITY_MOST;
+/// One list in so many fills a journal of 1000 entries; the first of all does.
+const LONG_EVERY: u64 = 10_000;
+
+#[derive(Clone, Copy, Debug)]
+enum Shape {
+    /// Calls on small volumes.
+    Clean,
+    /// Calls on volumes of about full capacity.
+    Wide,
+    /// A journal filled up to 1000 entries and beyond.
+    Long,
+    /// Calls, mostly on small volumes, each followed by calls on a copy with something wrong.
+    Corrupted,
+}
+
+/// One thread's work.
+pub struct Lists {
+    seed: u64,
+    comparison: Comparison,
+    pub coverage: Coverage,
+    pub calls: u64,
+    words: Vec<u16>,
+}
+
+impl Lists {
+    pub fn new(seed: u64) -> Lists {
+        Lists {
+            seed,
+            comparison: Comparison::new(),
+            coverage: Coverage::default(),
+            calls: 0,
+            words: Vec::new(),
+        }
+    }
+
+    pub fn registers(&self) -> u64 {
+        self.comparison.registers_compared
+    }
+
+    /// Runs the list of this index; a difference comes with all that is needed to see it again.
+    pub fn run(&mut self, index: u64) -> Result<(), String> {
+        let mut random = Random::new(self.seed, index);
+        let shape = match random.below(100) {
+            _ if index.is_multiple_of(LONG_EVERY) => Shape::Long,
+            0..=2 => Shape::Wide,
+            3..=39 => Shape::Corrupted,
+            _ => Shape::Clean,
+        };
+        let mut generator = Generator::new(random);
+        let done = match shape {
+            Shape::Clean => self.clean(&mut generator, false),
+            Shape::Wide => self.clean(&mut generator, true),
+            Shape::Long => self.long(&mut generator),
+            Shape::Corrupted => self.corrupted(&mut generator),
+        };
+        done.map_err(|difference| format!("seed {}, list {index} ({shape:?})\n{difference}", self.seed))
+    }
+
+    /// Runs and compares one call, and notes what it met.
+    fn step(&mut self, both: &mut Both, call: &Call, random: &mut Random) -> Result<Answer, String> {
+        self.calls += 1;
+        let before = Before::new(both);
+        let answer = self
+            .comparison
+            .run(both, call, random)
+            .map_err(|difference| format!("{call}\n{difference}"))?;
+        self.coverage.note_call(&before, call, answer);
+        if self.comparison.agreed {
+            self.coverage.note_registers(&both.twin, &self.comparison.registers);
+        }
+        Ok(answer)
+    }
+
+    /// A step of a clean list, which the book follows.
+    fn followed_step(&mut self, both: &mut Both, book: &mut Book, call: &Call, generator: &mut Generator) -> Result<(), String> {
+        let answer = self.step(both, call, &mut generator.random)?;
+        if answer.number == 4 {
+            return Err(format!("{call}\nnumber 4 in a clean list"));
+        }
+        follow(book, call);
+        if makes_sonde(call) {
+            generator.unbegun = true;
+        }
+        if call.kind() == Kind::Begin && answer.number == 0 {
+            generator.unbegun = false;
+        }
+        if generator.unbegun {
+            return Ok(());
+        }
+        self.check_book(both, book).map_err(|difference| format!("{call}\n{difference}"))
+    }
+
+    /// Demand 3: header and entries in use are the book's; replay, calibrations in force and the book's are the same.
+    fn check_book(&mut self, both: &Both, book: &Book) -> Result<(), String> {
+        book.lay_out(&mut self.words);
+        if let Some(word) = (0..self.words.len()).find(|&word| both.library_volume[word] != self.words[word]) {
+            let (volume, laid) = (both.library_volume[word], self.words[word]);
+            return Err(format!(
+                "word {word} of the volume isn't the book's\n  volume: {volume:#06X}\n  book:   {laid:#06X}"
+            ));
+        }
+        for (sensor, settings) in both.twin.settings.iter().enumerate() {
+            let replayed = replay(&both.library_volume, sensor);
+            if !replayed.same(&settings.active) || !replayed.same(&book.settings()[sensor].active) {
+                return Err(format!(
+                    "sensor {}: the calibration in force isn't replay's or the book's",
+                    sensor + 1
+                ));
+            }
+        }
+        if book.address() != both.library.address {
+            return Err(format!("the address isn't the book's, {}", book.address()));
+        }
+        match settings_difference(&both.twin.settings, book.settings()) {
+            None => Ok(()),
+            Some(field) => Err(format!("the settings aren't the book's: {field} (sonde's and book's)")),
+        }
+    }
+
+    fn clean(&mut self, generator: &mut Generator, wide: bool) -> Result<(), String> {
+        let words = if wide {
+            MOST_WORDS + 2
+        } else {
+            small_volume(&mut generator.random)
+        };
+        let mut both = Both::new(words, &mut generator.random);
+        let mut book = Book::fresh(1);
+        for number in 0..generator.random.between(20, 400) {
+            let call = if number == 0 {
+                Call::Fresh { address: 1 }
+            } else {
+                generator.call(&both)
+            };
+            self.followed_step(&mut both, &mut book, &call, generator)
+                .map_err(|difference| format!("call {number}: {difference}"))?;
+        }
+        Ok(())
+    }
+
+    /// Fills a journal of 1000 entries, updates once more, powers up, and corrupts copies.
+    fn long(&mut self, generator: &mut Generator) -> Result<(), String> {
+        let mut both = Both::new(MOST_WORDS + ENTRY_WORDS + 2, &mut generator.random);
+        let mut book = Book::fresh(1);
+        let mut calls = VecDeque::from([Call::Fresh { address: 1 }, Call::Begin { words: MOST_WORDS }]);
+        calls.extend([105, 205, 305, 405].map(|register| long_command(generator, register, ENTER)));
+        let mut number = 0;
+        while let Some(call) = calls.pop_front() {
+            self.followed_step(&mut both, &mut book, &call, generator)
+                .map_err(|difference| format!("call {number}: {difference}"))?;
+            number += 1;
+            if calls.is_empty() && book.entries().len() < CAPACITY_MOST {
+                let register = generator.random.pick(&[105, 205, 305, 405]);
+                calls.push_back(long_command(generator, register, UPDATE));
+            }
+        }
+        let last = [
+            long_command(generator, 305, UPDATE),
+            Call::PowerUp {
+                address: 9,
+                words: MOST_WORDS,
+            },
+            Call::Audit { words: MOST_WORDS + 1 },
+        ];
+        for call in last {
+            self.followed_step(&mut both, &mut book, &call, generator)
+                .map_err(|difference| format!("when full: {difference}"))?;
+        }
+        for _ in 0..100 {
+            self.corrupted_step(&both, generator)?;
+        }
+        Ok(())
+    }
+
+    fn corrupted(&mut self, generator: &mut Generator) -> Result<(), String> {
+        let wide = generator.random.chance(3);
+        let words = if wide {
+            MOST_WORDS + ENTRY_WORDS + 2
+        } else {
+            small_volume(&mut generator.random)
+        };
+        let mut both = Both::new(words, &mut generator.random);
+        for number in 0..generator.random.between(20, 200) {
+            let call = generator.call(&both);
+            let answer = self
+                .step(&mut both, &call, &mut generator.random)
+                .map_err(|difference| format!("call {number}: {difference}"))?;
+            generator.unbegun = (generator.unbegun || makes_sonde(&call)) && !(call.kind() == Kind::Begin && answer.number == 0);
+            if number == 20 && generator.random.chance(30) {
+                set_counters(&mut both, &mut generator.random);
+            }
+            if !generator.unbegun {
+                self.corrupted_step(&both, generator)
+                    .map_err(|difference| format!("after call {number}, on a copy: {difference}"))?;
+            }
+        }
+        Ok(())
+    }
+
+    /// Calls on a copy with something wrong.
+    fn corrupted_step(&mut self, both: &Both, generator: &mut Generator) -> Result<(), String> {
+        let mut copy = both.clone();
+        let corruption = if generator.random.chance(40) {
+            generator.random.pick(&OF_SONDE)
+        } else {
+            generator.random.pick(&OF_VOLUME)
+        };
+        if !corrupt(&mut copy, corruption, &mut generator.random) {
+            return Ok(());
+        }
+        let calls = [Call::Audit { words: copy.lent }, call_on_wrong(&copy, corruption, generator)];
+        for call in &calls {
+            let failed = |difference| format!("corrupted by {corruption:?}: {difference}");
+            let Answer { number, .. } = self.step(&mut copy, call, &mut generator.random).map_err(failed)?;
+            self.coverage.note(Item::Corrupted {
+                corruption,
+                call: call.kind(),
+                number,
+            });
+            let expected = if corruption.harmless() { 0 } else { 4 };
+            if call.kind() == Kind::Audit && number != expected && !corruption.uncertain() {
+                return Err(format!("corrupted by {corruption:?}: both audits give {number}, not {expected}"));
+            }
+        }
+        Ok(())
+    }
+}
+
+/// Feeds the book a call's arguments.
+fn follow(book: &mut Book, call: &Call) {
+    match call {
+        Call::Fresh { address } if makes_sonde(call) => *book = Book::fresh(*address),
+        Call::Begin { words } => book.begin(*words),
+        Call::PowerUp { address, .. } => book.power_up(*address),
+        Call::Frame(request) => book.frame(&request.bytes, request.reply, request.clock),
+        Call::Fresh { .. } | Call::Measure { .. } | Call::Audit { .. } => {}
+    }
+}
+
+/// Words for one to eight entries, and some over.
+fn small_volume(random: &mut Random) -> usize {
+    HEADER_WORDS + ENTRY_WORDS * random.pick(&[1, 2, 3, 4, 6, 8]) + random.between(0, 25)
+}
+
+fn long_command(generator: &mut Generator, register: u16, command: u16) -> Call {
+    let bytes = generator.command(1, register, command);
+    Call::Frame(Request {
+        bytes,
+        reply: 256,
+        words: MOST_WORDS,
+        clock: generator.random.long(),
+    })
+}
+
+/// Counters near the number at which they stop.
+fn set_counters(both: &mut Both, random: &mut Random) {
+    both.change_sonde(|sonde| {
+        let near = [(); 3].map(|()| u16::MAX - random.below(6) as u16);
+        [sonde.counters.good, sonde.counters.bad, sonde.counters.exceptions] = near;
+    });
+}
+
+fn corrupt(both: &mut Both, corruption: Corruption, random: &mut Random) -> bool {
+    if OF_SONDE.contains(&corruption) {
+        both.change_sonde(|sonde| corrupt_sonde(sonde, corruption, random));
+        return true;
+    }
+    corrupt_volume(both, corruption, random)
+}
+
+/// A call that looks at what is wrong.
+fn call_on_wrong(both: &Both, corruption: Corruption, generator: &mut Generator) -> Call {
+    let words = both.lent;
+    if corruption == Corruption::TrialThird && generator.random.chance(50) {
+        let sensor = both
+            .twin
+            .settings
+            .iter()
+            .position(|settings| settings.trial[2].to_bits() != 0)
+            .unwrap_or(0) as u16;
+        let bytes = generator.command(both.twin.address, 100 * sensor + 105, UPDATE);
+        return Call::Frame(Request {
+            bytes,
+            reply: 256,
+            words,
+            clock: 0,
+        });
+    }
+    match generator.random.below(10) {
+        0..=1 => Call::Begin { words },
+        2..=3 => generator.measure(&both.twin),
+        4..=6 => Call::PowerUp { address: 1, words },
+        _ => generator.frame(both),
+    }
+}
