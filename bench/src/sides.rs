@@ -1,6 +1,6 @@
 //! Who answers: the proved library, the second implementation, libmodbus. Each keeps its own sonde and volume.
 
-use sonde::ffi;
+use sonde::Sonde;
 
 /// At this clock.
 const CLOCK: u32 = 1_700_000_000;
@@ -15,17 +15,15 @@ pub trait Side {
 }
 
 pub struct Library {
-    sonde: ffi::Sonde,
+    sonde: Sonde,
     volume: Vec<u16>,
     reply: [u8; sonde::REPLY_BYTES],
 }
 
 impl Library {
     pub fn new() -> Library {
-        // SAFETY: a call by value alone.
-        let made = unsafe { ffi::sonde_fresh(1) };
         let mut side = Library {
-            sonde: made.sonde,
+            sonde: Sonde::fresh(1).expect("an address"),
             volume: vec![0; sonde::MOST_WORDS],
             reply: [0; sonde::REPLY_BYTES],
         };
@@ -36,36 +34,16 @@ impl Library {
 
 impl Side for Library {
     fn frame(&mut self, frame: &[u8]) -> usize {
-        let (reply, volume) = (&mut self.reply, &mut self.volume);
-        // SAFETY: the slices are valid for their lengths and lent for the call.
-        let answer = unsafe {
-            ffi::sonde_frame(
-                self.sonde,
-                frame.as_ptr(),
-                frame.len(),
-                reply.as_mut_ptr(),
-                reply.len(),
-                volume.as_mut_ptr(),
-                volume.len(),
-                CLOCK,
-            )
-        };
-        self.sonde = answer.sonde;
-        assert_eq!(answer.number, 0);
-        answer.length.into()
+        let reply = self.sonde.frame(frame, &mut self.reply, &mut self.volume, CLOCK);
+        reply.expect("no number").len()
     }
 
     fn begin(&mut self) {
-        // SAFETY: the slice is valid for its length and lent for the call.
-        let number = unsafe { ffi::sonde_begin(self.sonde, self.volume.as_mut_ptr(), self.volume.len()) };
-        assert_eq!(number, 0);
+        self.sonde.begin(&mut self.volume).expect("no number");
     }
 
     fn audit(&mut self) -> usize {
-        // SAFETY: the slice is valid for its length and lent for the call.
-        let audit = unsafe { ffi::sonde_audit(self.sonde, self.volume.as_ptr(), self.volume.len()) };
-        assert_eq!(audit.number, 0);
-        audit.entries.into()
+        self.sonde.audit(&self.volume).expect("no number").into()
     }
 }
 
