@@ -8,7 +8,7 @@ use Rattle.calibration.specs.Coefficients.{sameCalibration}
 use Rattle.calibration.proofs.Bits.{same-calibration-refl}
 use Rattle.journal.specs.Journal.{IsSensor, openingOf, indicesFrom, latest}
 use Rattle.journal.specs.Valid.{chainOf, valid}
-use Rattle.journal.specs.Replay.{replayOf}
+use Rattle.journal.specs.Replay.{replayOf, replays}
 use Rattle.journal.proofs.Tests.{sensor-cases, four-intro}
 use Rattle.journal.proofs.Chains.{indices-ascend, indices-member, chain-ends}
 use Rattle.journal.proofs.Holds.{Holds, holds-valid, holds-used, holds-chain, holds-replay}
@@ -16,7 +16,7 @@ use Rattle.sensors.specs.declared.Setup.{Setup}
 use Rattle.sensors.proofs.Setups.{valid-setup-parts}
 use Rattle.state.specs.Sonde.{setupAt}
 use Rattle.state.specs.declared.Sonde.{Sonde}
-use Rattle.calls.specs.Agrees.{openings, replayAgrees, replaysAgree, agrees}
+use Rattle.calls.specs.Agrees.{openings, sameCalibrations, journalAgrees, agrees}
 use Rattle.calls.specs.Calls.{auditOf}
 use Rattle.agreement.specs.Model.{Model, setupOf}
 use Rattle.agreement.specs.Runs.{State}
@@ -48,7 +48,7 @@ module _ {x : State} {b : Model} (h : Invariant x b) where
 
   -- so the sonde agrees with it
   pub agrees-with : agrees (x .sonde) (x .volume) ≡ true
-  unfolding agrees replaysAgree replayAgrees
+  unfolding agrees journalAgrees sameCalibrations replays
   agrees-with =
       rw (
         sonde-valid (h .matches),

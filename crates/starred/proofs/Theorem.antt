@@ -14,7 +14,7 @@ use Rattle.journal.specs.Journal.{validOpening}
 use Rattle.journal.specs.Layout.{header}
 use Rattle.journal.specs.Stores.{beginOf as beginWords, appendOf}
 use Rattle.journal.specs.Valid.{validHeader, openingAt, validOpenings, validEntryAt, chainOf, validLink, validChain, validChains, validEntries, valid}
-use Rattle.journal.specs.Replay.{replayOf}
+use Rattle.journal.specs.Replay.{replayOf, replays}
 use Rattle.parameters.specs.Parameters.{idOf, defaultUnits, unitsAllowed, levelAllowed}
 use Rattle.fields.specs.Fields.{owns, holds, fieldAt, whole as wholeField}
 use Rattle.sensors.specs.Sensors.{freshParameter, freshSetup, freshSensor, unitsValid, levelValid, sentinelsFinite, validSetup, validSensor}
@@ -23,7 +23,7 @@ use Rattle.registers.specs.Registers.{modeOf, headRegister, sensorRegister}
 use Rattle.writes.specs.Writes.{updated, commanded, fieldWritten, writeOf}
 use Rattle.plans.specs.Plans.{targetOf, planOf}
 use Rattle.state.specs.Sonde.{up, freshCounters, goodCounted, exceptionCounted, freshSonde, sensorAt, setupAt, withSensor, withSetup, countedGood, countedException, addressValid, validSonde}
-use Rattle.calls.specs.Agrees.{openings, replayAgrees, replaysAgree, agrees}
+use Rattle.calls.specs.Agrees.{openings, sameCalibrations, journalAgrees, agrees}
 use Rattle.calls.specs.Calls.{beginOf}
 use Rattle.calls.specs.Frame.{sent, refusal, writtenReply, confirmation, spareIn, writeAt, maskedWord, judged, frameOf}
 use Rattle.starred.specs.Starred.{Starred, worked, told, begunWith, beginTold, asked, next, frameTold, inMode}
@@ -34,12 +34,12 @@ unfolding crcBit crcBits crcByte crcFrom crcOf checksumOf framed bodyOf isGood o
     ofBits toBits round sub mul div le eq near minus finite floatOf highWord lowWord sameBits isPlusZero
     allFinite sameCoefficients sameCalibration defaultsOf inLimits methodOf candidateOf verdictOf judgedOf
     methodAllowed pointsFinite samePoints validEntry capacityOf entryWords numberAt floatAt entryAt validOpening header beginWords appendOf
-    validHeader openingAt validOpenings validEntryAt chainOf validLink validChain validChains validEntries valid replayOf
+    validHeader openingAt validOpenings validEntryAt chainOf validLink validChain validChains validEntries valid replayOf replays
     idOf defaultUnits unitsAllowed levelAllowed owns holds fieldAt wholeField
     freshParameter freshSetup freshSensor unitsValid levelValid sentinelsFinite validSetup validSensor restarted calibratedAt
     modeOf headRegister sensorRegister updated commanded fieldWritten writeOf targetOf planOf
     up freshCounters goodCounted exceptionCounted freshSonde sensorAt setupAt withSensor withSetup countedGood countedException addressValid validSonde
-    openings replayAgrees replaysAgree agrees beginOf sent refusal writtenReply confirmation spareIn writeAt maskedWord judged frameOf
+    openings sameCalibrations journalAgrees agrees beginOf sent refusal writtenReply confirmation spareIn writeAt maskedWord judged frameOf
     worked told begunWith beginTold asked next frameTold inMode
 starred =
     record {
