@@ -1,99 +1,111 @@
--- `frames::write` meets its contract. Assumes nothing.
-use mathlib.Core.Path.{sym, _∙_}
-use lib.ListN.{length, getD}
-use borrow.Author.Tests.{ltb-true}
-use Rattle.journal.specs.Words.{capacityOf}
-use Rattle.journal.proofs.Facts.{valid-capacity}
-use Rattle.writes.proofs.Updates.{update-facts}
-use Rattle.calls.specs.Frame.{spareIn, writeAt}
 use borrow.Author.Needs.{needs}
 use Rattle.frames.proofs.write.Statement.{statement}
 use Rattle.frames.proofs.write.Tie as tie
+use Rattle.frames.proofs.write.Reads as reads
+use Rattle.frames.proofs.write.Lts as lts
+use Rattle.frames.proofs.confirm.Reads as confirm-reads
+use Rattle.frames.proofs.refuse.Reads as refuse-reads
+use Rattle.frames.proofs.spare.Reads as spare-reads
+use Rattle.recording.proofs.append.Reads as append-reads
+use Rattle.state.proofs.Counters.count_exception.Reads as count-exception-reads
+use Rattle.writes.proofs.write.Reads as write-reads
 
+-- src/lib.rt:178:65
+spare-requires : tie.Need-spare-requires
+spare-requires c κs = search needs
+
+-- src/lib.rt:178:11
+write-requires : tie.Need-write-requires
+write-requires c κs = search needs
+
+-- src/lib.rt:179:26
+enum-known-code : tie.Need-enum-known-code
+enum-known-code c = search needs
+
+-- src/lib.rt:180:21
+refuse-requires : tie.Need-refuse-requires
+refuse-requires c κs = search needs
+
+-- src/lib.rt:181:23
+count-exception-requires : tie.Need-count-exception-requires
+count-exception-requires c κs = search needs
+
+-- src/lib.rt:183:25
+enum-known-s : tie.Need-enum-known-s
+enum-known-s c = search needs
+
+-- src/lib.rt:184:21
 confirm-requires : tie.Need-confirm-requires
-confirm-requires c κs =
-    let p = c .before .before .before .before .before .before .before .before .before .before .before .before .pre in
-    (p .0, p .1, p .2)
+confirm-requires c κs = search needs
 
+-- src/lib.rt:188:26
+enum-known-s-2 : tie.Need-enum-known-s-2
+enum-known-s-2 c = search needs
+
+-- src/lib.rt:189:13
 append-requires : tie.Need-append-requires
-unfolding spareIn
-append-requires c κs =
-    let x = c .before .before .before .before in
-    let y = x .before in
-    let z = y .before .before in
-    let p = z .before .before .before .before in
-    let a = p .args in
-    let g = c .before .before .s2 .given in
-    let u = update-facts (a .sensor) (z .setup .result) (a .field) (a .high) (a .low) (a .clock) (y .spare .result) (g .0 .0) (g .0 .1 .0) (sym (x .write .ensures) ∙ g .1) in
-    let r = ltb-true (getD (a .volume .now) 2 0) (capacityOf (length (a .volume .now))) (sym (y .spare .ensures) ∙ u .has-room) in
-    (rw (u .sensor-is) (p .pre .3), search needs, rw (valid-capacity (a .volume .now) (p .pre .4)) r)
+append-requires c κs = ?
 
-with-setup-requires-2 : tie.Need-with-setup-requires-2
-with-setup-requires-2 c κs =
-    let a = c .before .before .before .before .before .before .before .before .before .before .before .before .before .before in
-    a .pre .3
-
+-- src/lib.rt:191:25
 confirm-requires-2 : tie.Need-confirm-requires-2
-confirm-requires-2 c κs =
-    let p = c .before .before .before .before .before .before .before .before .before .before .before .before .before .before .before .before .pre in
-    (p .0, p .1, p .2)
+confirm-requires-2 c κs = search needs
 
+-- src/lib.rt:161:1
+same-length : tie.Need-same-length
+same-length c = search needs
+
+-- src/lib.rt:161:1
+same-length-2 : tie.Need-same-length-2
+same-length-2 c = search needs
+
+-- src/lib.rt:161:1
 returns : tie.Need-returns
-unfolding writeAt
-returns c =
-    let a = c .before .before in
-    let b = a .before .before .before in
-    let d = b .before .before in
-    let e = d .before in
-    let f = e .before .before in
-    simp (← f .setup .ensures, ← e .spare .ensures, ← d .write .ensures, b .code .given .1, a .refuse .ensures .0, ← a .refuse .ensures .1)
+returns c = ?
 
+-- src/lib.rt:161:1
+same-length-3 : tie.Need-same-length-3
+same-length-3 c = search needs
+
+-- src/lib.rt:161:1
+same-length-4 : tie.Need-same-length-4
+same-length-4 c = search needs
+
+-- src/lib.rt:161:1
 returns-2 : tie.Need-returns-2
-unfolding writeAt
-returns-2 c =
-    let a = c .before .before in
-    let b = a .before .before in
-    let d = b .before .before in
-    let e = d .before .before in
-    let f = e .before in
-    let g = f .before .before in
-    simp (← g .setup .ensures, ← f .spare .ensures, ← e .write .ensures, d .s .given .1, ← b .with-setup .ensures, a .confirm .ensures .0, ← a .confirm .ensures .1)
+returns-2 c = ?
 
+-- src/lib.rt:161:1
+same-length-5 : tie.Need-same-length-5
+same-length-5 c = search needs
+
+-- src/lib.rt:161:1
+same-length-6 : tie.Need-same-length-6
+same-length-6 c = search needs
+
+-- src/lib.rt:161:1
 returns-3 : tie.Need-returns-3
-unfolding writeAt
-returns-3 c =
-    let a = c .before .before in
-    let b = a .before .before in
-    let d = b .before .before .before in
-    let e = d .before .before .before in
-    let f = e .before .before in
-    let g = f .before in
-    let h = g .before .before in
-    let x = a .confirm2 .ensures in
-    simp (← h .setup .ensures, ← g .spare .ensures, ← f .write .ensures, e .s2 .given .1, ← d .append .ensures, ← b .with-setup2 .ensures, x .0, ← x .1)
+returns-3 c = ?
 
 pub write-spec : {M : Type 1} → statement M
 write-spec =
     tie.close
     (tie.spec
-    (λ c κs. search needs)
-    (λ c κs. search needs)
-    (λ c κs. search needs)
-    (λ c. search needs)
-    (λ c κs. search needs)
-    (λ c. search needs)
-    (λ c κs. search needs)
+    spare-requires
+    write-requires
+    enum-known-code
+    refuse-requires
+    count-exception-requires
+    enum-known-s
     confirm-requires
-    (λ c. search needs)
+    enum-known-s-2
     append-requires
-    with-setup-requires-2
     confirm-requires-2
-    (λ c. search needs)
-    (λ c. search needs)
+    same-length
+    same-length-2
     returns
-    (λ c. search needs)
-    (λ c. search needs)
+    same-length-3
+    same-length-4
     returns-2
-    (λ c. search needs)
-    (λ c. search needs)
+    same-length-5
+    same-length-6
     returns-3)
