@@ -3,6 +3,7 @@
 use mathlib.Core.List.{List}
 use Prim.Native.Nat.{ℕ}
 use lib.ListN.{length}
+use Rattle.journal.specs.Journal.{IsSensor}
 use Rattle.journal.specs.Stores.{appendOf}
 use Rattle.writes.specs.declared.Written.{Written}
 use Rattle.writes.specs.declared.Written.the-variants.{Refused as RefusedBy, Stored as StoredBy, Updated}
@@ -24,6 +25,11 @@ sizeOf (Stored size s x) = size
 abbrev pub changed : Sonde → Effect → Sonde
 changed d (Counted size c) = withCounters d c
 changed d (Stored size s x) = countedGood (withSetup d s x)
+
+-- the sensor that was written is one
+abbrev pub Fit : Effect → Type 0
+Fit (Counted size c) = Unit {0}
+Fit (Stored size s x) = IsSensor s
 
 abbrev pub finished : ℕ → ℕ → Sonde → SondeFrame
 finished number size d = record { number = number; length = size; sonde = d }

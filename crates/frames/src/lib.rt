@@ -10,7 +10,7 @@ ghost use Rattle.registers.specs.Registers.{sensorRegister, deviceRegister};
 ghost use Rattle.plans.specs.Plans.{planOf};
 ghost use Rattle.writes.specs.Writes.{writeOf};
 ghost use Rattle.calls.specs.Frame.{outcome, refusalBytes, writtenReply, confirmationBytes, deviceOf, shownFrom, registersFrom, readingBytes, spareIn, maskedWord, planned, frameOf};
-ghost use Rattle.frames.specs.Effects.{finished, leaves, writeEffect, writeBytes, writeWords};
+ghost use Rattle.frames.specs.Effects.{finished, leaves, Fit, writeEffect, writeBytes, writeWords};
 use calls::SondeFrame;
 use fields::Field;
 use plans::Plan;
@@ -213,6 +213,7 @@ fn masked(sonde: Sonde, sensor: u16, field: Field, and_mask: u16, or_mask: u16) 
 fn answer(sonde: Sonde, body: &[u8], reply: &mut [u8], volume: &mut [u16], clock: u32) -> Effect
     requires { ⌜ (256 ≤ length (now reply)) × (length (now body) ≤ 254) × (valid (now volume) ≡ true) ⌝ }
     ensures { λ r. ⌜ leaves sonde r (now (reply .exit)) (now (volume .exit)) ≡ planned sonde (now (body .entry)) (now (reply .entry)) (now (volume .entry)) clock (planOf (sonde .address) (now (body .entry))) ⌝ }
+    ensures { λ r. ⌜ Fit r ⌝ }
 {
     let counters = sonde.counters;
     match plans::judge(sonde.address, body) {

@@ -1,31 +1,33 @@
+-- `frames::confirm` meets its contract. Assumes nothing.
+use borrow.Author.Tests.{eq-eqb, ne-eqb}
+use Rattle.rtu.specs.Frame.{overlay}
+use Rattle.calls.specs.Frame.{sent}
 use borrow.Author.Needs.{needs}
 use Rattle.frames.proofs.confirm.Statement.{statement}
 use Rattle.frames.proofs.confirm.Tie as tie
-use Rattle.frames.proofs.confirm.Reads as reads
-use Rattle.frames.proofs.confirm.Lts as lts
-use Rattle.frames.proofs.put_written.Reads as put-written-reads
-use Rattle.modbus.proofs.address.Reads as address-reads
 
--- src/lib.rt:83:8
-address-requires : tie.Need-address-requires
-address-requires c κs = search needs
-
--- src/lib.rt:84:9
 returns : tie.Need-returns
-returns c = ?
+unfolding overlay sent
+returns c =
+    let a = c .before in
+    let z = eq-eqb (a .address .result) 0 (c .if1 .taken) in
+    (simp (← a .address .ensures, z), simp (← a .address .ensures, z))
 
--- src/lib.rt:86:5
-put-written-requires : tie.Need-put-written-requires
-put-written-requires c κs = search needs
-
--- src/lib.rt:78:1
-same-length : tie.Need-same-length
-same-length c = search needs
-
--- src/lib.rt:78:1
 returns-2 : tie.Need-returns-2
-returns-2 c = ?
+unfolding sent
+returns-2 c =
+    let p = c .before .before in
+    let b = p .before .before in
+    let a = b .before in
+    let n = ne-eqb (a .address .result) 0 (b .if1 .left) in
+    (simp (← a .address .ensures, n, p .put-written .ensures .0), simp (← a .address .ensures, n, ← p .put-written .ensures .1))
 
 pub confirm-spec : {M : Type 1} → statement M
 confirm-spec =
-    tie.close (tie.spec address-requires returns put-written-requires same-length returns-2)
+    tie.close
+    (tie.spec
+    (λ c κs. search needs)
+    returns
+    (λ c κs. search needs)
+    (λ c. search needs)
+    returns-2)
