@@ -1,168 +1,146 @@
+-- `frames::answer` meets its contract. Assumes nothing.
+use native.Mathlib.Omega.{arith}
+use mathlib.Core.Path.{sym, _∙_}
+use Rattle.plans.proofs.Plans.{facts-of}
+use Rattle.rtu.specs.Frame.{overlay}
+use Rattle.state.specs.Sonde.{withCounters, countedGood, countedException}
+use Rattle.calls.specs.Frame.{refusal, reading, writeAt, spareIn}
+use Rattle.writes.specs.Writes.{writeOf}
+use Rattle.frames.proofs.Effects.{write-leaves, write-fit}
 use borrow.Author.Needs.{needs}
 use Rattle.frames.proofs.answer.Statement.{statement}
 use Rattle.frames.proofs.answer.Tie as tie
-use Rattle.frames.proofs.answer.Reads as reads
-use Rattle.frames.proofs.answer.Lts as lts
-use Rattle.frames.proofs.masked.Reads as masked-reads
-use Rattle.frames.proofs.read.Reads as read-reads
-use Rattle.frames.proofs.refuse.Reads as refuse-reads
-use Rattle.frames.proofs.write.Reads as write-reads
-use Rattle.plans.proofs.judge.Reads as judge-reads
-use Rattle.state.proofs.Counters.count_exception.Reads as count-exception-reads
-use Rattle.state.proofs.Counters.count_good.Reads as count-good-reads
-use Rattle.state.proofs.Sonde.setup.Reads as setup-reads
 
--- src/lib.rt:218:11
-judge-requires : tie.Need-judge-requires
-judge-requires c κs = search needs
-
--- src/lib.rt:219:26
-enum-told : tie.Need-enum-told
-enum-told c = search needs
-
--- src/lib.rt:225:23
-enum-told-2 : tie.Need-enum-told-2
-enum-told-2 c = search needs
-
--- src/lib.rt:225:23
-count-good-requires : tie.Need-count-good-requires
-count-good-requires c κs = search needs
-
--- src/lib.rt:227:23
-enum-known-code : tie.Need-enum-known-code
-enum-known-code c = search needs
-
--- src/lib.rt:228:21
-refuse-requires : tie.Need-refuse-requires
-refuse-requires c κs = search needs
-
--- src/lib.rt:229:23
-count-exception-requires : tie.Need-count-exception-requires
-count-exception-requires c κs = search needs
-
--- src/lib.rt:231:25
-enum-known-start : tie.Need-enum-known-start
-enum-known-start c = search needs
-
--- src/lib.rt:232:21
 read-requires : tie.Need-read-requires
-read-requires c κs = ?
+read-requires c κs =
+    let j = c .before .before .before .before .before in
+    let a = j .before .before .before .before .before .args in
+    let f = facts-of (a .sonde .address) (a .body .now) (sym (j .judge .ensures) ∙ c .before .before .before .start .given .1) in
+    (search needs, f .most, omega (arith, f .least, f .ends), f .block)
 
--- src/lib.rt:233:23
-count-good-requires-2 : tie.Need-count-good-requires-2
-count-good-requires-2 c κs = search needs
-
--- src/lib.rt:236:13
-enum-known-sensor : tie.Need-enum-known-sensor
-enum-known-sensor c = search needs
-
--- src/lib.rt:242:13
 setup-requires : tie.Need-setup-requires
-setup-requires c κs = ?
+setup-requires c κs =
+    let j = c .before .before .before in
+    let a = j .before .before .before .before .before .args in
+    let f = facts-of (a .sonde .address) (a .body .now) (sym (j .judge .ensures) ∙ c .before .sensor .given .1) in
+    f .located .is-sensor
 
--- src/lib.rt:240:14
 write-requires : tie.Need-write-requires
-write-requires c κs = ?
+write-requires c κs =
+    let j = c .before .before .before .before .before .before in
+    let a = j .before .before .before .before .before .args in
+    let f = facts-of (a .sonde .address) (a .body .now) (sym (j .judge .ensures) ∙ c .before .before .before .before .sensor .given .1) in
+    (search needs, f .long, search needs, f .located .is-sensor, search needs)
 
--- src/lib.rt:253:13
-enum-known-sensor-2 : tie.Need-enum-known-sensor-2
-enum-known-sensor-2 c = search needs
-
--- src/lib.rt:258:17
 masked-requires : tie.Need-masked-requires
-masked-requires c κs = ?
+masked-requires c κs =
+    let j = c .before .before .before in
+    let a = j .before .before .before .before .before .args in
+    let f = facts-of (a .sonde .address) (a .body .now) (sym (j .judge .ensures) ∙ c .before .sensor2 .given .1) in
+    f .located .is-sensor
 
--- src/lib.rt:261:17
 setup-requires-2 : tie.Need-setup-requires-2
-setup-requires-2 c κs = ?
+setup-requires-2 c κs =
+    let j = c .before .before .before .before in
+    let a = j .before .before .before .before .before .args in
+    let f = facts-of (a .sonde .address) (a .body .now) (sym (j .judge .ensures) ∙ c .before .before .sensor2 .given .1) in
+    f .located .is-sensor
 
--- src/lib.rt:259:13
 write-requires-2 : tie.Need-write-requires-2
-write-requires-2 c κs = ?
+write-requires-2 c κs =
+    let j = c .before .before .before .before .before .before .before in
+    let a = j .before .before .before .before .before .args in
+    let f = facts-of (a .sonde .address) (a .body .now) (sym (j .judge .ensures) ∙ c .before .before .before .before .before .sensor2 .given .1) in
+    (search needs, f .long, search needs, f .located .is-sensor, search needs)
 
--- src/lib.rt:213:1
 returns : tie.Need-returns
-returns c = ?
+unfolding overlay withCounters
+returns c = (simp (← c .before .before .judge .ensures, c .enum-told .given .1), tt)
 
--- src/lib.rt:213:1
 returns-2 : tie.Need-returns-2
-returns-2 c = ?
+unfolding overlay withCounters countedGood
+returns-2 c =
+    let a = c .before in
+    (simp (← a .before .before .judge .ensures, a .enum-told2 .given .1, c .count-good .ensures), tt)
 
--- src/lib.rt:213:1
-same-length : tie.Need-same-length
-same-length c = search needs
-
--- src/lib.rt:213:1
 returns-3 : tie.Need-returns-3
-returns-3 c = ?
+unfolding refusal withCounters countedException
+returns-3 c =
+    let a = c .before .before .before in
+    let b = a .before .before .before in
+    (simp (← b .before .before .judge .ensures, b .code .given .1, a .refuse .ensures .0, ← a .refuse .ensures .1, c .count-exception .ensures), tt)
 
--- src/lib.rt:213:1
-same-length-2 : tie.Need-same-length-2
-same-length-2 c = search needs
-
--- src/lib.rt:213:1
-same-length-3 : tie.Need-same-length-3
-same-length-3 c = search needs
-
--- src/lib.rt:213:1
 returns-4 : tie.Need-returns-4
-returns-4 c = ?
+unfolding reading withCounters countedGood
+returns-4 c =
+    let a = c .before .before .before in
+    let b = a .before .before .before .before in
+    (simp (← b .before .before .judge .ensures, b .start .given .1, a .read .ensures .0, ← a .read .ensures .1, c .count-good2 .ensures), tt)
 
--- src/lib.rt:213:1
-same-length-4 : tie.Need-same-length-4
-same-length-4 c = search needs
-
--- src/lib.rt:213:1
-same-length-5 : tie.Need-same-length-5
-same-length-5 c = search needs
-
--- src/lib.rt:213:1
 returns-5 : tie.Need-returns-5
-returns-5 c = ?
+unfolding writeAt
+returns-5 c =
+    let a = c .before .before .before .before in
+    let s = a .before .before .before in
+    let b = s .before .before in
+    let j = b .before .before in
+    let x = j .before .before .before .before .before .args in
+    let e = a .write .ensures in
+    let g = b .sensor .given in
+    let f = facts-of (x .sonde .address) (x .body .now) (sym (j .judge .ensures) ∙ g .1) in
+    let W = writeOf (g .0 .0) (s .setup .result) (g .0 .1 .0) (g .0 .1 .1 .0) (g .0 .1 .1 .1 .0) (x .clock) (spareIn (x .volume .now)) in (
+      rw (e .0, e .1 .0, e .1 .1, ← j .judge .ensures, g .1, ← s .setup .ensures) (write-leaves (x .sonde) (x .body .now) (x .reply .now) (x .volume .now) (g .0 .0) W),
+      rw (e .0) (write-fit (x .sonde .counters) (x .body .now) (g .0 .0) W (f .located .is-sensor)),
+    )
 
--- src/lib.rt:213:1
-same-length-6 : tie.Need-same-length-6
-same-length-6 c = search needs
-
--- src/lib.rt:213:1
-same-length-7 : tie.Need-same-length-7
-same-length-7 c = search needs
-
--- src/lib.rt:213:1
 returns-6 : tie.Need-returns-6
-returns-6 c = ?
+unfolding writeAt
+returns-6 c =
+    let a = c .before .before .before .before in
+    let s = a .before .before .before in
+    let m = s .before in
+    let b = m .before .before in
+    let j = b .before .before in
+    let x = j .before .before .before .before .before .args in
+    let e = a .write2 .ensures in
+    let g = b .sensor2 .given in
+    let f = facts-of (x .sonde .address) (x .body .now) (sym (j .judge .ensures) ∙ g .1) in
+    let W = writeOf (g .0 .0) (s .setup2 .result) (g .0 .1 .0) (m .masked .result) 0 (x .clock) (spareIn (x .volume .now)) in (
+      rw (e .0, e .1 .0, e .1 .1, ← j .judge .ensures, g .1, ← m .masked .ensures, ← s .setup2 .ensures) (write-leaves (x .sonde) (x .body .now) (x .reply .now) (x .volume .now) (g .0 .0) W),
+      rw (e .0) (write-fit (x .sonde .counters) (x .body .now) (g .0 .0) W (f .located .is-sensor)),
+    )
 
 pub answer-spec : {M : Type 1} → statement M
 answer-spec =
     tie.close
     (tie.spec
-    judge-requires
-    enum-told
-    enum-told-2
-    count-good-requires
-    enum-known-code
-    refuse-requires
-    count-exception-requires
-    enum-known-start
+    (λ c κs. search needs)
+    (λ c. search needs)
+    (λ c. search needs)
+    (λ c κs. search needs)
+    (λ c. search needs)
+    (λ c κs. search needs)
+    (λ c κs. search needs)
+    (λ c. search needs)
     read-requires
-    count-good-requires-2
-    enum-known-sensor
+    (λ c κs. search needs)
+    (λ c. search needs)
     setup-requires
     write-requires
-    enum-known-sensor-2
+    (λ c. search needs)
     masked-requires
     setup-requires-2
     write-requires-2
     returns
     returns-2
-    same-length
+    (λ c. search needs)
     returns-3
-    same-length-2
-    same-length-3
+    (λ c. search needs)
+    (λ c. search needs)
     returns-4
-    same-length-4
-    same-length-5
+    (λ c. search needs)
+    (λ c. search needs)
     returns-5
-    same-length-6
-    same-length-7
+    (λ c. search needs)
+    (λ c. search needs)
     returns-6)

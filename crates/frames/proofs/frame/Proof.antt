@@ -1,149 +1,118 @@
+-- `frames::frame` meets its contract. Assumes nothing.
+use mathlib.Core.Path.{sym, _∙_}
+use native.Mathlib.Omega.{arith}
+use Rattle.rtu.specs.Bytes.{Bytes}
+use Rattle.rtu.specs.Frame.{overlay}
+use Rattle.rtu.proofs.RoundTrip.{good-is-framed, body-length}
+use Rattle.calls.proofs.Parts.{agrees-parts}
+use borrow.Author.Tests.{le-ltb, lt-ltb, not-false, not-true}
+use Rattle.calls.specs.Frame.{frameOf, judged}
 use borrow.Author.Needs.{needs}
 use Rattle.frames.proofs.frame.Statement.{statement}
 use Rattle.frames.proofs.frame.Tie as tie
-use Rattle.frames.proofs.frame.Reads as reads
-use Rattle.frames.proofs.frame.Lts as lts
-use Rattle.calls.proofs.agrees.Reads as agrees-reads
-use Rattle.frames.proofs.answer.Reads as answer-reads
-use Rattle.frames.proofs.finish.Reads as finish-reads
-use Rattle.rtu.proofs.frame.body.Reads as body-reads
-use Rattle.rtu.proofs.frame.is_good.Reads as is-good-reads
-use Rattle.state.proofs.Sonde.count_bad.Reads as count-bad-reads
-use Rattle.state.proofs.Sonde.count_good.Reads as count-good-reads
-use Rattle.state.proofs.Sonde.with_counters.Reads as with-counters-reads
-use Rattle.state.proofs.Sonde.with_setup.Reads as with-setup-reads
 
--- src/lib.rt:286:9
-finish-requires : tie.Need-finish-requires
-finish-requires c κs = search needs
-
--- src/lib.rt:286:9
 returns : tie.Need-returns
-returns c = ?
+unfolding frameOf
+returns c = simp (lt-ltb _ _ (c .before .if1 .taken), c .finish .ensures)
 
--- src/lib.rt:288:9
-agrees-requires : tie.Need-agrees-requires
-agrees-requires c κs = search needs
-
--- src/lib.rt:289:9
-finish-requires-2 : tie.Need-finish-requires-2
-finish-requires-2 c κs = search needs
-
--- src/lib.rt:289:9
-same-length : tie.Need-same-length
-same-length c = search needs
-
--- src/lib.rt:289:9
 returns-2 : tie.Need-returns-2
-returns-2 c = ?
+unfolding frameOf
+returns-2 c =
+    let a = c .before .before in
+    let b = a .before .before in
+    simp (le-ltb _ _ (b .if1 .left), ← a .agrees .ensures, not-true (a .agrees .result) (c .before .if2 .taken), c .finish2 .ensures)
 
--- src/lib.rt:291:9
-is-good-requires : tie.Need-is-good-requires
-is-good-requires c κs = search needs
-
--- src/lib.rt:292:29
-count-bad-requires : tie.Need-count-bad-requires
-count-bad-requires c κs = search needs
-
--- src/lib.rt:292:9
-finish-requires-3 : tie.Need-finish-requires-3
-finish-requires-3 c κs = search needs
-
--- src/lib.rt:292:9
-same-length-2 : tie.Need-same-length-2
-same-length-2 c = search needs
-
--- src/lib.rt:292:9
 returns-3 : tie.Need-returns-3
-returns-3 c = ?
+unfolding frameOf judged overlay
+returns-3 c =
+    let a = c .before in
+    let b = a .before in
+    let d = b .before in
+    let e = d .before in
+    let f = e .before in
+    let g = f .before .before in
+    let fit = not-false (f .agrees .result) (e .if2 .left) in
+    let bad = not-true (d .is-good .result) (b .if3 .taken) in
+    simp (le-ltb _ _ (g .if1 .left), ← f .agrees .ensures, fit, ← d .is-good .ensures, bad, c .finish3 .ensures, a .count-bad .ensures)
 
--- src/lib.rt:294:25
-body-requires : tie.Need-body-requires
-body-requires c κs = search needs
-
--- src/lib.rt:294:11
 answer-requires : tie.Need-answer-requires
-answer-requires c κs = ?
+answer-requires c κs =
+    let b = c .before .before in
+    let i = b .before .before in
+    let g = i .before .before in
+    let a = g .before .before .before .before .before .before .args in
+    let s = a .frame .now in
+    let bytes : Bytes s = record { below = λ i. omega (arith, g .before .before .before .before .before .shared-slice-known .given i) } in
+    let f = good-is-framed s bytes (sym (i .is-good .ensures) ∙ not-false (i .is-good .result) (b .before .if3 .left)) in
+    let v = agrees-parts (a .sonde) (a .volume .now) (sym (g .agrees .ensures) ∙ not-false (g .agrees .result) (i .before .if2 .left)) in
+    (search needs, rw (b .body .ensures, body-length s) (omega arith), v .volume-valid)
 
--- src/lib.rt:295:27
-enum-known-length : tie.Need-enum-known-length
-enum-known-length c = search needs
-
--- src/lib.rt:295:67
-with-counters-requires : tie.Need-with-counters-requires
-with-counters-requires c κs = search needs
-
--- src/lib.rt:295:49
-finish-requires-4 : tie.Need-finish-requires-4
-finish-requires-4 c κs = search needs
-
--- src/lib.rt:297:13
-enum-known-length-2 : tie.Need-enum-known-length-2
-enum-known-length-2 c = search needs
-
--- src/lib.rt:301:17
 with-setup-requires : tie.Need-with-setup-requires
-with-setup-requires c κs = ?
+with-setup-requires c κs =
+    let b = c .before in
+    let a = b .before .before .before .before .before .before in
+    rw (b .length2 .given .1) at (a .answer .ensures .1)
 
--- src/lib.rt:302:31
-count-good-requires : tie.Need-count-good-requires
-count-good-requires c κs = search needs
-
--- src/lib.rt:302:13
-finish-requires-5 : tie.Need-finish-requires-5
-finish-requires-5 c κs = search needs
-
--- src/lib.rt:276:1
-same-length-3 : tie.Need-same-length-3
-same-length-3 c = search needs
-
--- src/lib.rt:276:1
-same-length-4 : tie.Need-same-length-4
-same-length-4 c = search needs
-
--- src/lib.rt:276:1
 returns-4 : tie.Need-returns-4
-returns-4 c = ?
+unfolding frameOf judged
+returns-4 c =
+    let w = c .before in
+    let l = w .before .before in
+    let a = l .before .before .before .before .before .before in
+    let b = a .before .before .before in
+    let d = b .before in
+    let e = d .before in
+    let f = e .before in
+    let g = f .before in
+    let h = g .before .before in
+    let fit = not-false (g .agrees .result) (f .if2 .left) in
+    let good = not-false (e .is-good .result) (d .if3 .left) in
+    simp (le-ltb _ _ (h .if1 .left), ← g .agrees .ensures, fit, ← e .is-good .ensures, good, ← b .body .ensures, ← a .answer .ensures .0, l .length .given .1, c .finish4 .ensures, w .with-counters .ensures)
 
--- src/lib.rt:276:1
-same-length-5 : tie.Need-same-length-5
-same-length-5 c = search needs
-
--- src/lib.rt:276:1
-same-length-6 : tie.Need-same-length-6
-same-length-6 c = search needs
-
--- src/lib.rt:276:1
 returns-5 : tie.Need-returns-5
-returns-5 c = ?
+unfolding frameOf judged
+returns-5 c =
+    let k = c .before in
+    let w = k .before in
+    let l = w .before .before in
+    let a = l .before .before .before .before .before .before in
+    let b = a .before .before .before in
+    let d = b .before in
+    let e = d .before in
+    let f = e .before in
+    let g = f .before in
+    let h = g .before .before in
+    let fit = not-false (g .agrees .result) (f .if2 .left) in
+    let good = not-false (e .is-good .result) (d .if3 .left) in
+    simp (le-ltb _ _ (h .if1 .left), ← g .agrees .ensures, fit, ← e .is-good .ensures, good, ← b .body .ensures, ← a .answer .ensures .0, l .length2 .given .1, c .finish5 .ensures, k .count-good .ensures, w .with-setup .ensures)
 
 pub frame-spec : {M : Type 1} → statement M
 frame-spec =
     tie.close
     (tie.spec
-    finish-requires
+    (λ c κs. search needs)
     returns
-    agrees-requires
-    finish-requires-2
-    same-length
+    (λ c κs. search needs)
+    (λ c κs. search needs)
+    (λ c. search needs)
     returns-2
-    is-good-requires
-    count-bad-requires
-    finish-requires-3
-    same-length-2
+    (λ c κs. search needs)
+    (λ c κs. search needs)
+    (λ c κs. search needs)
+    (λ c. search needs)
     returns-3
-    body-requires
+    (λ c κs. search needs)
     answer-requires
-    enum-known-length
-    with-counters-requires
-    finish-requires-4
-    enum-known-length-2
+    (λ c. search needs)
+    (λ c κs. search needs)
+    (λ c κs. search needs)
+    (λ c. search needs)
     with-setup-requires
-    count-good-requires
-    finish-requires-5
-    same-length-3
-    same-length-4
+    (λ c κs. search needs)
+    (λ c κs. search needs)
+    (λ c. search needs)
+    (λ c. search needs)
     returns-4
-    same-length-5
-    same-length-6
+    (λ c. search needs)
+    (λ c. search needs)
     returns-5)

@@ -5,7 +5,6 @@ use borrow.Author.Tests.{ltb-true}
 use Rattle.journal.specs.Words.{capacityOf}
 use Rattle.journal.proofs.Facts.{valid-capacity}
 use Rattle.writes.proofs.Updates.{update-facts}
-use Rattle.rtu.specs.Frame.{overlay}
 use Rattle.calls.specs.Frame.{spareIn}
 use borrow.Author.Needs.{needs}
 use Rattle.frames.proofs.write.Statement.{statement}
@@ -24,13 +23,44 @@ append-requires c κs =
     (rw (u .sensor-is) (p .pre .3), search needs, rw (valid-capacity (a .volume .now) (p .pre .4)) r)
 
 returns : tie.Need-returns
-returns c = ?
+returns c =
+    let a = c .before .before .before in
+    let b = a .before .before .before in
+    let w = b .before .before in
+    let u = w .before in (
+      simp (← u .spare .ensures, ← w .write .ensures, b .code .given .1, a .refuse .ensures .0, c .count-exception .ensures),
+      (
+        simp (← u .spare .ensures, ← w .write .ensures, b .code .given .1, a .refuse .ensures .1),
+        simp (← u .spare .ensures, ← w .write .ensures, b .code .given .1),
+      ),
+    )
 
 returns-2 : tie.Need-returns-2
-returns-2 c = ?
+returns-2 c =
+    let a = c .before .before in
+    let b = a .before .before .before in
+    let w = b .before .before in
+    let u = w .before in (
+      simp (← u .spare .ensures, ← w .write .ensures, b .s .given .1, a .confirm .ensures .0),
+      (
+        simp (← u .spare .ensures, ← w .write .ensures, b .s .given .1, a .confirm .ensures .1),
+        simp (← u .spare .ensures, ← w .write .ensures, b .s .given .1),
+      ),
+    )
 
 returns-3 : tie.Need-returns-3
-returns-3 c = ?
+returns-3 c =
+    let a = c .before .before in
+    let p = a .before .before .before .before in
+    let b = p .before .before .before in
+    let w = b .before .before in
+    let u = w .before in (
+      simp (← u .spare .ensures, ← w .write .ensures, b .s2 .given .1, a .confirm2 .ensures .0),
+      (
+        simp (← u .spare .ensures, ← w .write .ensures, b .s2 .given .1, a .confirm2 .ensures .1),
+        simp (← u .spare .ensures, ← w .write .ensures, b .s2 .given .1, p .append .ensures),
+      ),
+    )
 
 pub write-spec : {M : Type 1} → statement M
 write-spec =
