@@ -1,4 +1,5 @@
 -- `frames::confirm` meets its contract. Assumes nothing.
+use mathlib.Core.Path.{refl}
 use borrow.Author.Tests.{eq-eqb, ne-eqb}
 use Rattle.rtu.specs.Frame.{overlay}
 use Rattle.calls.specs.Frame.{sent}
@@ -11,7 +12,7 @@ unfolding overlay sent
 returns c =
     let a = c .before in
     let z = eq-eqb (a .address .result) 0 (c .if1 .taken) in
-    (simp (← a .address .ensures, z), simp (← a .address .ensures, z))
+    simp (← a .address .ensures, z) (refl, refl)
 
 returns-2 : tie.Need-returns-2
 unfolding sent
@@ -20,7 +21,7 @@ returns-2 c =
     let b = p .before .before in
     let a = b .before in
     let n = ne-eqb (a .address .result) 0 (b .if1 .left) in
-    (simp (← a .address .ensures, n, p .put-written .ensures .0), simp (← a .address .ensures, n, ← p .put-written .ensures .1))
+    simp (← a .address .ensures, n, p .put-written .ensures .0, p .put-written .ensures .1) (refl, refl)
 
 pub confirm-spec : {M : Type 1} → statement M
 confirm-spec =

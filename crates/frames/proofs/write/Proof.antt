@@ -1,5 +1,5 @@
 -- `frames::write` meets its contract. Assumes nothing.
-use mathlib.Core.Path.{sym, _∙_}
+use mathlib.Core.Path.{refl, sym, _∙_}
 use lib.ListN.{length, getD}
 use borrow.Author.Tests.{ltb-true}
 use Rattle.journal.specs.Words.{capacityOf}
@@ -27,26 +27,16 @@ returns c =
     let a = c .before .before .before in
     let b = a .before .before .before in
     let w = b .before .before in
-    let u = w .before in (
-      simp (← u .spare .ensures, ← w .write .ensures, b .code .given .1, a .refuse .ensures .0, c .count-exception .ensures),
-      (
-        simp (← u .spare .ensures, ← w .write .ensures, b .code .given .1, a .refuse .ensures .1),
-        simp (← u .spare .ensures, ← w .write .ensures, b .code .given .1),
-      ),
-    )
+    let u = w .before in
+    simp (← u .spare .ensures, ← w .write .ensures, b .code .given .1, a .refuse .ensures .0, a .refuse .ensures .1, c .count-exception .ensures) (refl, (refl, refl))
 
 returns-2 : tie.Need-returns-2
 returns-2 c =
     let a = c .before .before in
     let b = a .before .before .before in
     let w = b .before .before in
-    let u = w .before in (
-      simp (← u .spare .ensures, ← w .write .ensures, b .s .given .1, a .confirm .ensures .0),
-      (
-        simp (← u .spare .ensures, ← w .write .ensures, b .s .given .1, a .confirm .ensures .1),
-        simp (← u .spare .ensures, ← w .write .ensures, b .s .given .1),
-      ),
-    )
+    let u = w .before in
+    simp (← u .spare .ensures, ← w .write .ensures, b .s .given .1, a .confirm .ensures .0, a .confirm .ensures .1) (refl, (refl, refl))
 
 returns-3 : tie.Need-returns-3
 returns-3 c =
@@ -54,13 +44,8 @@ returns-3 c =
     let p = a .before .before .before .before in
     let b = p .before .before .before in
     let w = b .before .before in
-    let u = w .before in (
-      simp (← u .spare .ensures, ← w .write .ensures, b .s2 .given .1, a .confirm2 .ensures .0),
-      (
-        simp (← u .spare .ensures, ← w .write .ensures, b .s2 .given .1, a .confirm2 .ensures .1),
-        simp (← u .spare .ensures, ← w .write .ensures, b .s2 .given .1, p .append .ensures),
-      ),
-    )
+    let u = w .before in
+    simp (← u .spare .ensures, ← w .write .ensures, b .s2 .given .1, a .confirm2 .ensures .0, a .confirm2 .ensures .1, p .append .ensures) (refl, (refl, refl))
 
 pub write-spec : {M : Type 1} → statement M
 write-spec =
