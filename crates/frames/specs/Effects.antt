@@ -26,7 +26,7 @@ abbrev pub changed : Sonde → Effect → Sonde
 changed d (Counted size c) = withCounters d c
 changed d (Stored size s x) = countedGood (withSetup d s x)
 
--- the sensor that was written is one
+-- what is stored is one of the four sensors'
 abbrev pub Fit : Effect → Type 0
 Fit (Counted size c) = Unit {0}
 Fit (Stored size s x) = IsSensor s

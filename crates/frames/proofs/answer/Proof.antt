@@ -4,8 +4,7 @@ use mathlib.Core.Path.{sym, _∙_}
 use Rattle.plans.proofs.Plans.{facts-of}
 use Rattle.rtu.specs.Frame.{overlay}
 use Rattle.state.specs.Sonde.{withCounters, countedGood, countedException}
-use Rattle.calls.specs.Frame.{refusal, reading, writeAt, spareIn}
-use Rattle.writes.specs.Writes.{writeOf}
+use Rattle.calls.specs.Frame.{refusal, reading, writeAt, maskedWord}
 use Rattle.frames.proofs.Effects.{write-leaves, write-fit}
 use borrow.Author.Needs.{needs}
 use Rattle.frames.proofs.answer.Statement.{statement}
@@ -23,7 +22,7 @@ setup-requires c κs =
     let j = c .before .before .before in
     let a = j .before .before .before .before .before .args in
     let f = facts-of (a .sonde .address) (a .body .now) (sym (j .judge .ensures) ∙ c .before .sensor .given .1) in
-    f .located .is-sensor
+    (omega (arith, f .located .is-sensor .0), omega (arith, f .located .is-sensor .1))
 
 write-requires : tie.Need-write-requires
 write-requires c κs =
@@ -44,7 +43,7 @@ setup-requires-2 c κs =
     let j = c .before .before .before .before in
     let a = j .before .before .before .before .before .args in
     let f = facts-of (a .sonde .address) (a .body .now) (sym (j .judge .ensures) ∙ c .before .before .sensor2 .given .1) in
-    f .located .is-sensor
+    (omega (arith, f .located .is-sensor .0), omega (arith, f .located .is-sensor .1))
 
 write-requires-2 : tie.Need-write-requires-2
 write-requires-2 c κs =
@@ -88,9 +87,9 @@ returns-5 c =
     let e = a .write .ensures in
     let g = b .sensor .given in
     let f = facts-of (x .sonde .address) (x .body .now) (sym (j .judge .ensures) ∙ g .1) in
-    let W = writeOf (g .0 .0) (s .setup .result) (g .0 .1 .0) (g .0 .1 .1 .0) (g .0 .1 .1 .1 .0) (x .clock) (spareIn (x .volume .now)) in (
-      rw (e .0, e .1 .0, e .1 .1, ← j .judge .ensures, g .1, ← s .setup .ensures) (write-leaves (x .sonde) (x .body .now) (x .reply .now) (x .volume .now) (g .0 .0) W),
-      rw (e .0) (write-fit (x .sonde .counters) (x .body .now) (g .0 .0) W (f .located .is-sensor)),
+    let y = writeAt (x .sonde) (x .volume .now) (x .clock) (g .0 .0) (g .0 .1 .0) (g .0 .1 .1 .0) (g .0 .1 .1 .1 .0) in (
+      rw (e .0, e .1 .0, e .1 .1, s .setup .ensures, ← j .judge .ensures, g .1) (write-leaves (x .sonde) (x .body .now) (x .reply .now) (x .volume .now) (g .0 .0) y),
+      rw (e .0, s .setup .ensures) (write-fit (x .sonde .counters) (x .body .now) (g .0 .0) y (f .located .is-sensor)),
     )
 
 returns-6 : tie.Need-returns-6
@@ -105,9 +104,10 @@ returns-6 c =
     let e = a .write2 .ensures in
     let g = b .sensor2 .given in
     let f = facts-of (x .sonde .address) (x .body .now) (sym (j .judge .ensures) ∙ g .1) in
-    let W = writeOf (g .0 .0) (s .setup2 .result) (g .0 .1 .0) (m .masked .result) 0 (x .clock) (spareIn (x .volume .now)) in (
-      rw (e .0, e .1 .0, e .1 .1, ← j .judge .ensures, g .1, ← m .masked .ensures, ← s .setup2 .ensures) (write-leaves (x .sonde) (x .body .now) (x .reply .now) (x .volume .now) (g .0 .0) W),
-      rw (e .0) (write-fit (x .sonde .counters) (x .body .now) (g .0 .0) W (f .located .is-sensor)),
+    let word = maskedWord (x .sonde) (g .0 .0) (g .0 .1 .0) (g .0 .1 .1 .0) (g .0 .1 .1 .1 .0) in
+    let y = writeAt (x .sonde) (x .volume .now) (x .clock) (g .0 .0) (g .0 .1 .0) word 0 in (
+      rw (e .0, e .1 .0, e .1 .1, s .setup2 .ensures, m .masked .ensures, ← j .judge .ensures, g .1) (write-leaves (x .sonde) (x .body .now) (x .reply .now) (x .volume .now) (g .0 .0) y),
+      rw (e .0, s .setup2 .ensures, m .masked .ensures) (write-fit (x .sonde .counters) (x .body .now) (g .0 .0) y (f .located .is-sensor)),
     )
 
 pub answer-spec : {M : Type 1} → statement M
