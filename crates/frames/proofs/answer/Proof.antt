@@ -5,7 +5,7 @@ use Rattle.plans.proofs.Plans.{facts-of}
 use Rattle.rtu.specs.Frame.{overlay}
 use Rattle.state.specs.Sonde.{withCounters, countedGood, countedException}
 use Rattle.calls.specs.Frame.{refusal, reading, writeAt, maskedWord}
-use Rattle.frames.proofs.Effects.{write-leaves, write-fit}
+use Rattle.frames.proofs.Effects.{write-leaves}
 use borrow.Author.Needs.{needs}
 use Rattle.frames.proofs.answer.Statement.{statement}
 use Rattle.frames.proofs.answer.Tie as tie
@@ -87,10 +87,9 @@ returns-5 c =
     let e = a .write .ensures in
     let g = b .sensor .given in
     let f = facts-of (x .sonde .address) (x .body .now) (sym (j .judge .ensures) ∙ g .1) in
-    let y = writeAt (x .sonde) (x .volume .now) (x .clock) (g .0 .0) (g .0 .1 .0) (g .0 .1 .1 .0) (g .0 .1 .1 .1 .0) in (
-      rw (e .0, e .1 .0, e .1 .1, s .setup .ensures, ← j .judge .ensures, g .1) (write-leaves (x .sonde) (x .body .now) (x .reply .now) (x .volume .now) (g .0 .0) y),
-      rw (e .0, s .setup .ensures) (write-fit (x .sonde .counters) (x .body .now) (g .0 .0) y (f .located .is-sensor)),
-    )
+    let y = writeAt (x .sonde) (x .volume .now) (x .clock) (g .0 .0) (g .0 .1 .0) (g .0 .1 .1 .0) (g .0 .1 .1 .1 .0) in
+    let l = write-leaves (x .sonde) (x .body .now) (x .reply .now) (x .volume .now) (g .0 .0) y (f .located .is-sensor) in
+    rw (e .0, e .1 .0, e .1 .1, s .setup .ensures, ← j .judge .ensures, g .1) l
 
 returns-6 : tie.Need-returns-6
 unfolding writeAt
@@ -105,10 +104,9 @@ returns-6 c =
     let g = b .sensor2 .given in
     let f = facts-of (x .sonde .address) (x .body .now) (sym (j .judge .ensures) ∙ g .1) in
     let word = maskedWord (x .sonde) (g .0 .0) (g .0 .1 .0) (g .0 .1 .1 .0) (g .0 .1 .1 .1 .0) in
-    let y = writeAt (x .sonde) (x .volume .now) (x .clock) (g .0 .0) (g .0 .1 .0) word 0 in (
-      rw (e .0, e .1 .0, e .1 .1, s .setup2 .ensures, m .masked .ensures, ← j .judge .ensures, g .1) (write-leaves (x .sonde) (x .body .now) (x .reply .now) (x .volume .now) (g .0 .0) y),
-      rw (e .0, s .setup2 .ensures, m .masked .ensures) (write-fit (x .sonde .counters) (x .body .now) (g .0 .0) y (f .located .is-sensor)),
-    )
+    let y = writeAt (x .sonde) (x .volume .now) (x .clock) (g .0 .0) (g .0 .1 .0) word 0 in
+    let l = write-leaves (x .sonde) (x .body .now) (x .reply .now) (x .volume .now) (g .0 .0) y (f .located .is-sensor) in
+    rw (e .0, e .1 .0, e .1 .1, s .setup2 .ensures, m .masked .ensures, ← j .judge .ensures, g .1) l
 
 pub answer-spec : {M : Type 1} → statement M
 answer-spec =
