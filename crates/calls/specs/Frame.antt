@@ -63,16 +63,23 @@ left a reply volume = outcome (handed a) (overlay (a .bytes) reply) volume
 unfoldable pub sent : List ℕ → List ℕ → List ℕ
 sent body bytes = cond (eqb (addressOf body) 0) [] bytes
 
--- "Others count good, and a refused one also as exception"; "Exception reply: address, function or 0x80, code, CRC"
+-- "Exception reply: address, function or 0x80, code, CRC"
+abbrev pub refusalBytes : List ℕ → ℕ → List ℕ
+refusalBytes body code = sent body (exceptionReply (addressOf body) (functionOf body) code)
+
+-- "Others count good, and a refused one also as exception"
 unfoldable pub refusal : Sonde → List ℕ → ℕ → Answer
-refusal d body code = answer (countedException d) (sent body (exceptionReply (addressOf body) (functionOf body) code))
+refusal d body code = answer (countedException d) (refusalBytes body code)
 
 -- the standard's reply to a write: 16 answers with start and count, 6 and 22 with the request
 unfoldable pub writtenReply : List ℕ → List ℕ
 writtenReply body = cond (eqb (functionOf body) 16) (writeReply (addressOf body) (wordAt body 2) (wordAt body 4)) (echoReply body)
 
+abbrev pub confirmationBytes : List ℕ → List ℕ
+confirmationBytes body = sent body (writtenReply body)
+
 unfoldable pub confirmation : Sonde → List ℕ → Answer
-confirmation d body = answer (countedGood d) (sent body (writtenReply body))
+confirmation d body = answer (countedGood d) (confirmationBytes body)
 
 -- ---- reads
 
@@ -102,8 +109,11 @@ shownFrom f r (suc n) = f r ∷ shownFrom f (suc r) n
 abbrev pub registersFrom : Sonde → Device → ℕ → ℕ → List ℕ
 registersFrom d v r count = shownFrom (registerOf d v) r count
 
+abbrev pub readingBytes : Sonde → List ℕ → ℕ → ℕ → ℕ → List ℕ
+readingBytes d w clock start count = readReply (d .address) (registersFrom d (deviceOf d w clock) start count)
+
 unfoldable pub reading : Sonde → List ℕ → ℕ → ℕ → ℕ → Answer
-reading d w clock start count = answer (countedGood d) (readReply (d .address) (registersFrom d (deviceOf d w clock) start count))
+reading d w clock start count = answer (countedGood d) (readingBytes d w clock start count)
 
 -- ---- writes
 

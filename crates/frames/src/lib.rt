@@ -1,7 +1,6 @@
 // The frame call: judged, answered and carried out. The plan says what a body asks; each kind of answer is a function of its own.
 ghost use mathlib.Core.Path.{_≡_};
 ghost use mathlib.Core.Bool.{true};
-ghost use mathlib.Core.List.{[]};
 ghost use Prim.Native.Nat.{_+_, _%_, _<_, _≤_};
 ghost use lib.ListN.{length};
 ghost use Rattle.journal.specs.Journal.{IsSensor};
@@ -9,45 +8,56 @@ ghost use Rattle.journal.specs.Valid.{valid};
 ghost use Rattle.rtu.specs.Frame.{overlay};
 ghost use Rattle.registers.specs.Registers.{sensorRegister, deviceRegister};
 ghost use Rattle.plans.specs.Plans.{planOf};
-ghost use Rattle.calls.specs.Frame.{outcome, answer as answered, handed, refusal, writtenReply, confirmation, deviceOf, shownFrom, registersFrom, reading, spareIn, writeAt, carried, maskedWord, planned, frameOf};
+ghost use Rattle.writes.specs.Writes.{writeOf};
+ghost use Rattle.calls.specs.Frame.{outcome, refusalBytes, writtenReply, confirmationBytes, deviceOf, shownFrom, registersFrom, readingBytes, spareIn, maskedWord, planned, frameOf};
+ghost use Rattle.frames.specs.Effects.{finished, leaves, Fit, writeEffect, writeBytes, writeWords};
 use calls::SondeFrame;
 use fields::Field;
 use plans::Plan;
 use registers::Device;
 use rtu::bytes;
 use sensors::Sensor;
+use sensors::Setup;
+use state::Counters;
 use state::Sonde;
 use writes::Written;
 
-// A frame that gets no reply.
-fn silent(sonde: Sonde) -> SondeFrame
-    ensures { λ r. ⌜ r ≡ handed (answered sonde []) ⌝ }
+// What a frame changes of a sonde, with the length of the reply: the counters, or by a write that is stored the setup of a sensor. The sonde
+// is put together once, at the end.
+pub enum Effect {
+    Counted {
+        length: u16,
+        counters: Counters,
+    },
+    Stored {
+        length: u16,
+        sensor: u16,
+        setup: Setup,
+    },
+}
+
+fn finish(number: u8, size: u16, sonde: Sonde) -> SondeFrame
+    ensures { λ r. ⌜ r ≡ finished number size sonde ⌝ }
 {
     SondeFrame {
-        number: 0,
-        length: 0,
+        number,
+        length: size,
         sonde,
     }
 }
 
-// The answer to a request that is refused by a code.
-fn refuse(sonde: Sonde, body: &[u8], reply: &mut [u8], code: u8) -> SondeFrame
+// The reply to a request that is refused by a code.
+fn refuse(body: &[u8], reply: &mut [u8], code: u8) -> u16
     requires { ⌜ 256 ≤ length (now reply) ⌝ }
-    ensures { λ r. ⌜ r ≡ handed (refusal sonde (now (body .entry)) code) ⌝ }
-    ensures { λ _. ⌜ now (reply .exit) ≡ overlay (refusal sonde (now (body .entry)) code .bytes) (now (reply .entry)) ⌝ }
+    ensures { λ r. ⌜ r ≡ length (refusalBytes (now (body .entry)) code) ⌝ }
+    ensures { λ _. ⌜ now (reply .exit) ≡ overlay (refusalBytes (now (body .entry)) code) (now (reply .entry)) ⌝ }
 {
-    let refused = sonde.count_exception();
     let address = modbus::address(body);
     if address == 0 {
-        return silent(refused);
+        return 0;
     }
     let function = modbus::function(body);
-    let length = replies::put_exception(reply, address, function, code);
-    SondeFrame {
-        number: 0,
-        length,
-        sonde: refused,
-    }
+    replies::put_exception(reply, address, function, code)
 }
 
 // The reply to a write that was carried out: start and count to function 16, else the request.
@@ -64,22 +74,16 @@ fn put_written(reply: &mut [u8], body: &[u8]) -> u16
     replies::put_echo(reply, body)
 }
 
-// The answer to a write that was carried out.
-fn confirm(sonde: Sonde, body: &[u8], reply: &mut [u8]) -> SondeFrame
+// The reply to a write that was carried out; none at address 0.
+fn confirm(body: &[u8], reply: &mut [u8]) -> u16
     requires { ⌜ (256 ≤ length (now reply)) × (6 ≤ length (now body)) × (length (now body) ≤ 254) ⌝ }
-    ensures { λ r. ⌜ r ≡ handed (confirmation sonde (now (body .entry))) ⌝ }
-    ensures { λ _. ⌜ now (reply .exit) ≡ overlay (confirmation sonde (now (body .entry)) .bytes) (now (reply .entry)) ⌝ }
+    ensures { λ r. ⌜ r ≡ length (confirmationBytes (now (body .entry))) ⌝ }
+    ensures { λ _. ⌜ now (reply .exit) ≡ overlay (confirmationBytes (now (body .entry))) (now (reply .entry)) ⌝ }
 {
-    let counted = sonde.count_good();
     if modbus::address(body) == 0 {
-        return silent(counted);
+        return 0;
     }
-    let length = put_written(reply, body);
-    SondeFrame {
-        number: 0,
-        length,
-        sonde: counted,
-    }
+    put_written(reply, body)
 }
 
 // The values that the device's registers show.
@@ -135,28 +139,15 @@ fn fill(words: &mut [u16], sonde: Sonde, device: Device, start: u16)
     );
 }
 
-fn read(
-    sonde: Sonde,
-    reply: &mut [u8],
-    volume: &[u16],
-    clock: u32,
-    start: u16,
-    count: u16,
-) -> SondeFrame
+fn read(sonde: Sonde, reply: &mut [u8], volume: &[u16], clock: u32, start: u16, count: u16) -> u16
     requires { ⌜ (256 ≤ length (now reply)) × (count ≤ 125) × (start < 500) × (start % 100 + count ≤ 100) ⌝ }
-    ensures { λ r. ⌜ r ≡ handed (reading sonde (now (volume .entry)) clock start count) ⌝ }
-    ensures { λ _. ⌜ now (reply .exit) ≡ overlay (reading sonde (now (volume .entry)) clock start count .bytes) (now (reply .entry)) ⌝ }
+    ensures { λ r. ⌜ r ≡ length (readingBytes sonde (now (volume .entry)) clock start count) ⌝ }
+    ensures { λ _. ⌜ now (reply .exit) ≡ overlay (readingBytes sonde (now (volume .entry)) clock start count) (now (reply .entry)) ⌝ }
 {
-    let counted = sonde.count_good();
     let mut words: [u16; 125] = [0; 125];
     let n = count as usize;
     fill(&mut words[..n], sonde, device(sonde, volume, clock), start);
-    let length = replies::put_read(reply, sonde.address, &words[..n]);
-    SondeFrame {
-        number: 0,
-        length,
-        sonde: counted,
-    }
+    replies::put_read(reply, sonde.address, &words[..n])
 }
 
 // Whether the journal has room for an entry.
@@ -168,7 +159,8 @@ fn spare(volume: &[u16]) -> bool
 
 // A write of one whole field: refused, stored, or an update that is journalled.
 fn write(
-    sonde: Sonde,
+    counters: Counters,
+    setup: Setup,
     body: &[u8],
     reply: &mut [u8],
     volume: &mut [u16],
@@ -177,17 +169,29 @@ fn write(
     field: Field,
     high: u16,
     low: u16,
-) -> SondeFrame
+) -> Effect
     requires { ⌜ (256 ≤ length (now reply)) × (6 ≤ length (now body)) × (length (now body) ≤ 254) × IsSensor sensor × (valid (now volume) ≡ true) ⌝ }
-    ensures { λ r. ⌜ outcome r (now (reply .exit)) (now (volume .exit)) ≡ carried sonde (now (body .entry)) (now (reply .entry)) (now (volume .entry)) sensor (writeAt sonde (now (volume .entry)) clock sensor field high low) ⌝ }
+    ensures { λ r. ⌜ r ≡ writeEffect counters (now (body .entry)) sensor (writeOf sensor setup field high low clock (spareIn (now (volume .entry)))) ⌝ }
+    ensures { λ _. ⌜ now (reply .exit) ≡ overlay (writeBytes (now (body .entry)) (writeOf sensor setup field high low clock (spareIn (now (volume .entry))))) (now (reply .entry)) ⌝ }
+    ensures { λ _. ⌜ now (volume .exit) ≡ writeWords (now (volume .entry)) (writeOf sensor setup field high low clock (spareIn (now (volume .entry)))) ⌝ }
 {
-    let setup = sonde.setup(sensor);
     match writes::write(sensor, setup, field, high, low, clock, spare(volume)) {
-        Written::Refused(code) => refuse(sonde, body, reply, code),
-        Written::Stored(s) => confirm(sonde.with_setup(sensor, s), body, reply),
+        Written::Refused(code) => Effect::Counted {
+            length: refuse(body, reply, code),
+            counters: counters.count_exception(),
+        },
+        Written::Stored(s) => Effect::Stored {
+            length: confirm(body, reply),
+            sensor,
+            setup: s,
+        },
         Written::Updated(s, e) => {
             recording::append(volume, e);
-            confirm(sonde.with_setup(sensor, s), body, reply)
+            Effect::Stored {
+                length: confirm(body, reply),
+                sensor,
+                setup: s,
+            }
         }
     }
 }
@@ -206,21 +210,46 @@ fn masked(sonde: Sonde, sensor: u16, field: Field, and_mask: u16, or_mask: u16) 
 }
 
 // A body whose frame was good, for a sonde that agrees with its volume.
-fn answer(sonde: Sonde, body: &[u8], reply: &mut [u8], volume: &mut [u16], clock: u32) -> SondeFrame
+fn answer(sonde: Sonde, body: &[u8], reply: &mut [u8], volume: &mut [u16], clock: u32) -> Effect
     requires { ⌜ (256 ≤ length (now reply)) × (length (now body) ≤ 254) × (valid (now volume) ≡ true) ⌝ }
-    ensures { λ r. ⌜ outcome r (now (reply .exit)) (now (volume .exit)) ≡ planned sonde (now (body .entry)) (now (reply .entry)) (now (volume .entry)) clock (planOf (sonde .address) (now (body .entry))) ⌝ }
+    ensures { λ r. ⌜ leaves sonde r (now (reply .exit)) (now (volume .exit)) ≡ planned sonde (now (body .entry)) (now (reply .entry)) (now (volume .entry)) clock (planOf (sonde .address) (now (body .entry))) ⌝ }
+    ensures { λ r. ⌜ Fit r ⌝ }
 {
+    let counters = sonde.counters;
     match plans::judge(sonde.address, body) {
-        Plan::Foreign => silent(sonde),
-        Plan::BroadcastRead => silent(sonde.count_good()),
-        Plan::Refused(code) => refuse(sonde, body, reply, code),
-        Plan::Reading { start, count } => read(sonde, reply, volume, clock, start, count),
+        Plan::Foreign => Effect::Counted {
+            length: 0,
+            counters,
+        },
+        Plan::BroadcastRead => Effect::Counted {
+            length: 0,
+            counters: counters.count_good(),
+        },
+        Plan::Refused(code) => Effect::Counted {
+            length: refuse(body, reply, code),
+            counters: counters.count_exception(),
+        },
+        Plan::Reading { start, count } => Effect::Counted {
+            length: read(sonde, reply, volume, clock, start, count),
+            counters: counters.count_good(),
+        },
         Plan::Writing {
             sensor,
             field,
             high,
             low,
-        } => write(sonde, body, reply, volume, clock, sensor, field, high, low),
+        } => write(
+            counters,
+            sonde.setup(sensor),
+            body,
+            reply,
+            volume,
+            clock,
+            sensor,
+            field,
+            high,
+            low,
+        ),
         Plan::Masking {
             sensor,
             field,
@@ -228,7 +257,18 @@ fn answer(sonde: Sonde, body: &[u8], reply: &mut [u8], volume: &mut [u16], clock
             or_mask,
         } => {
             let word = masked(sonde, sensor, field, and_mask, or_mask);
-            write(sonde, body, reply, volume, clock, sensor, field, word, 0)
+            write(
+                counters,
+                sonde.setup(sensor),
+                body,
+                reply,
+                volume,
+                clock,
+                sensor,
+                field,
+                word,
+                0,
+            )
         }
     }
 }
@@ -244,21 +284,23 @@ pub fn frame(
     ensures { λ r. ⌜ outcome r (now (reply .exit)) (now (volume .exit)) ≡ frameOf sonde (now (frame .entry)) (now (reply .entry)) (now (volume .entry)) clock ⌝ }
 {
     if reply.len() < 256 {
-        return SondeFrame {
-            number: 3,
-            length: 0,
-            sonde,
-        };
+        return finish(3, 0, sonde);
     }
     if !calls::agrees(sonde, volume) {
-        return SondeFrame {
-            number: 4,
-            length: 0,
-            sonde,
-        };
+        return finish(4, 0, sonde);
     }
     if !rtu::frame::is_good(frame) {
-        return silent(sonde.count_bad());
+        return finish(0, 0, sonde.count_bad());
     }
-    answer(sonde, rtu::frame::body(frame), reply, volume, clock)
+    match answer(sonde, rtu::frame::body(frame), reply, volume, clock) {
+        Effect::Counted { length, counters } => finish(0, length, sonde.with_counters(counters)),
+        Effect::Stored {
+            length,
+            sensor,
+            setup,
+        } => {
+            let stored = sonde.with_setup(sensor, setup);
+            finish(0, length, stored.count_good())
+        }
+    }
 }

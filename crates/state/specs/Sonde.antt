@@ -81,6 +81,9 @@ unfoldable pub measuredAt : Sonde → ℕ → Bool → Float → Float → Sonde
 measuredAt d s present first second =
     withSensor d s (record { setup = setupAt d s; sample = measuredOf (sensorAt d s .sample) s present first second })
 
+unfoldable pub withCounters : Sonde → Counters → Sonde
+withCounters d c = sonde (d .address) (d .sensors) c
+
 unfoldable pub countedGood : Sonde → Sonde
 countedGood d = sonde (d .address) (d .sensors) (goodCounted (d .counters))
 

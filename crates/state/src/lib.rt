@@ -1,7 +1,7 @@
 // The state of a sonde: an address, four sensors and the message counters. It goes in and comes back by value.
 ghost use mathlib.Core.Path.{_≡_};
 ghost use Rattle.journal.specs.Journal.{IsSensor};
-ghost use Rattle.state.specs.Sonde.{up as upOf, freshCounters, goodCounted, badCounted, exceptionCounted, freshSonde, addressValid, validSonde, setupAt, withSetup, measuredAt, countedGood, countedBad, countedException};
+ghost use Rattle.state.specs.Sonde.{up as upOf, freshCounters, goodCounted, badCounted, exceptionCounted, freshSonde, addressValid, validSonde, setupAt, withSetup, withCounters, measuredAt, countedGood, countedBad, countedException};
 use sensors::Sensor;
 use sensors::Setup;
 
@@ -120,6 +120,13 @@ impl Sonde {
         let mut x = self.sensors[i];
         x.setup = setup;
         self.sensors[i] = x;
+        self
+    }
+
+    pub fn with_counters(mut self, counters: Counters) -> Self
+        ensures { λ r. ⌜ r ≡ withCounters self counters ⌝ }
+    {
+        self.counters = counters;
         self
     }
 

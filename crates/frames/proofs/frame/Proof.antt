@@ -13,11 +13,14 @@ use Rattle.frames.proofs.frame.Tie as tie
 
 returns : tie.Need-returns
 unfolding frameOf
-returns c = simp (lt-ltb _ _ (c .if1 .taken))
+returns c = simp (lt-ltb _ _ (c .before .if1 .taken), c .finish .ensures)
 
 returns-2 : tie.Need-returns-2
 unfolding frameOf
-returns-2 c = simp (le-ltb _ _ (c .before .before .before .if1 .left), ← c .before .agrees .ensures, not-true (c .before .agrees .result) (c .if2 .taken))
+returns-2 c =
+    let a = c .before .before in
+    let b = a .before .before in
+    simp (le-ltb _ _ (b .if1 .left), ← a .agrees .ensures, not-true (a .agrees .result) (c .before .if2 .taken), c .finish2 .ensures)
 
 returns-3 : tie.Need-returns-3
 unfolding frameOf judged overlay
@@ -30,7 +33,7 @@ returns-3 c =
     let g = f .before .before in
     let fit = not-false (f .agrees .result) (e .if2 .left) in
     let bad = not-true (d .is-good .result) (b .if3 .taken) in
-    simp (le-ltb _ _ (g .if1 .left), ← f .agrees .ensures, fit, ← d .is-good .ensures, bad, ← a .count-bad .ensures, c .silent .ensures)
+    simp (le-ltb _ _ (g .if1 .left), ← f .agrees .ensures, fit, ← d .is-good .ensures, bad, c .finish3 .ensures, a .count-bad .ensures)
 
 answer-requires : tie.Need-answer-requires
 answer-requires c κs =
@@ -44,10 +47,18 @@ answer-requires c κs =
     let v = agrees-parts (a .sonde) (a .volume .now) (sym (g .agrees .ensures) ∙ not-false (g .agrees .result) (i .before .if2 .left)) in
     (search needs, rw (b .body .ensures, body-length s) (omega arith), v .volume-valid)
 
+with-setup-requires : tie.Need-with-setup-requires
+with-setup-requires c κs =
+    let b = c .before in
+    let a = b .before .before .before .before .before .before in
+    rw (b .length2 .given .1) at (a .answer .ensures .1)
+
 returns-4 : tie.Need-returns-4
 unfolding frameOf judged
 returns-4 c =
-    let a = c .before .before .before .before in
+    let w = c .before in
+    let l = w .before .before in
+    let a = l .before .before .before .before .before .before in
     let b = a .before .before .before in
     let d = b .before in
     let e = d .before in
@@ -56,13 +67,32 @@ returns-4 c =
     let h = g .before .before in
     let fit = not-false (g .agrees .result) (f .if2 .left) in
     let good = not-false (e .is-good .result) (d .if3 .left) in
-    simp (le-ltb _ _ (h .if1 .left), ← g .agrees .ensures, fit, ← e .is-good .ensures, good, ← b .body .ensures, ← a .answer .ensures)
+    simp (le-ltb _ _ (h .if1 .left), ← g .agrees .ensures, fit, ← e .is-good .ensures, good, ← b .body .ensures, ← a .answer .ensures .0, l .length .given .1, c .finish4 .ensures, w .with-counters .ensures)
+
+returns-5 : tie.Need-returns-5
+unfolding frameOf judged
+returns-5 c =
+    let k = c .before in
+    let w = k .before in
+    let l = w .before .before in
+    let a = l .before .before .before .before .before .before in
+    let b = a .before .before .before in
+    let d = b .before in
+    let e = d .before in
+    let f = e .before in
+    let g = f .before in
+    let h = g .before .before in
+    let fit = not-false (g .agrees .result) (f .if2 .left) in
+    let good = not-false (e .is-good .result) (d .if3 .left) in
+    simp (le-ltb _ _ (h .if1 .left), ← g .agrees .ensures, fit, ← e .is-good .ensures, good, ← b .body .ensures, ← a .answer .ensures .0, l .length2 .given .1, c .finish5 .ensures, k .count-good .ensures, w .with-setup .ensures)
 
 pub frame-spec : {M : Type 1} → statement M
 frame-spec =
     tie.close
     (tie.spec
+    (λ c κs. search needs)
     returns
+    (λ c κs. search needs)
     (λ c κs. search needs)
     (λ c. search needs)
     returns-2
@@ -74,5 +104,15 @@ frame-spec =
     (λ c κs. search needs)
     answer-requires
     (λ c. search needs)
+    (λ c κs. search needs)
+    (λ c κs. search needs)
     (λ c. search needs)
-    returns-4)
+    with-setup-requires
+    (λ c κs. search needs)
+    (λ c κs. search needs)
+    (λ c. search needs)
+    (λ c. search needs)
+    returns-4
+    (λ c. search needs)
+    (λ c. search needs)
+    returns-5)

@@ -5,7 +5,7 @@ use Prim.Native.Nat.{ℕ, _≤_}
 use native.Mathlib.Omega.{arith}
 use lib.ListN.{length, take, drop, replicate, length-append}
 use lib.Seq.{length-take-le, take-at}
-use Rattle.calls.specs.Frame.{deviceOf, registersFrom, reading}
+use Rattle.calls.specs.Frame.{deviceOf, registersFrom}
 use borrow.Author.Needs.{needs}
 use Rattle.frames.proofs.read.Statement.{statement}
 use Rattle.frames.proofs.read.Tie as tie
@@ -26,48 +26,46 @@ slice-aggregate-fill c = sym (length-take-le _ _ (omega arith))
 
 fill-requires : tie.Need-fill-requires
 fill-requires c κs =
-    let a = c .before .before .before .before .before .args in
+    let a = c .before .before .before .before .args in
     rw (zeros-length (a .count) (omega arith)) (omega arith)
 
 array-share-prefix-words : tie.Need-array-share-prefix-words
 array-share-prefix-words c =
     let f = c .before .before in
-    let n = f .before .before .before .before .before .before .args .count in
+    let n = f .before .before .before .before .before .args .count in
     let e = f .fill .kept .0 ∙ zeros-length n (omega arith) in
     rw length-append (omega arith)
 
 slice-aggregate-put-read : tie.Need-slice-aggregate-put-read
 slice-aggregate-put-read c =
     let f = c .before .before .before in
-    let n = f .before .before .before .before .before .before .args .count in
+    let n = f .before .before .before .before .before .args .count in
     let h : n ≤ 125 = omega arith in
     sym (rw (filled n (f .fill .last .0) h (f .fill .kept .0)) (f .fill .kept .0 ∙ zeros-length n h))
 
 put-read-requires : tie.Need-put-read-requires
 put-read-requires c κs =
     let f = c .before .before .before in
-    let n = f .before .before .before .before .before .before .args .count in
+    let n = f .before .before .before .before .before .args .count in
     let h : n ≤ 125 = omega arith in
     let e = f .fill .kept .0 ∙ zeros-length n h in
     (search needs, rw (filled n (f .fill .last .0) h (f .fill .kept .0)) (omega arith))
 
 returns : tie.Need-returns
-unfolding reading
 returns c =
     let p = c .before .before in
     let f = p .before .before .before .before in
-    let a = f .before .before .before .before .before .before .args in
+    let a = f .before .before .before .before .before .args in
     let n = a .count in
     let h : n ≤ 125 = omega arith in
     let w : take n (f .fill .last .0 ++ drop n zeros) ≡ registersFrom (a .sonde) (deviceOf (a .sonde) (a .volume .now) (a .clock)) (a .start) n
     = filled n (f .fill .last .0) h (f .fill .kept .0) ∙ f .fill .ensures ∙ rw (zeros-length n h, f .before .device .ensures) in
-    (simp (p .put-read .ensures .0, w, f .before .before .before .count-good .ensures), p .put-read .ensures .1 ∙ rw w)
+    (p .put-read .ensures .0 ∙ rw w, p .put-read .ensures .1 ∙ rw w)
 
 pub read-spec : {M : Type 1} → statement M
 read-spec =
     tie.close
     (tie.spec
-    (λ c κs. search needs)
     (λ c. search needs)
     slice-aggregate-fill
     (λ c κs. search needs)

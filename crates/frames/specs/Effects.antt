@@ -1,0 +1,57 @@
+-- What a frame changes of a sonde, as the code hands it on: the counters, or the setup of the sensor that was written, with the length of
+-- the reply. The sonde itself is put together once, at the end. Assumes nothing.
+use mathlib.Core.List.{List}
+use Prim.Native.Nat.{ℕ}
+use lib.ListN.{length}
+use Rattle.journal.specs.Journal.{IsSensor}
+use Rattle.journal.specs.Stores.{appendOf}
+use Rattle.writes.specs.declared.Written.{Written}
+use Rattle.writes.specs.declared.Written.the-variants.{Refused as RefusedBy, Stored as StoredBy, Updated}
+use Rattle.state.specs.Sonde.{exceptionCounted, withSetup, withCounters, countedGood}
+use Rattle.state.specs.declared.Counters.{Counters}
+use Rattle.state.specs.declared.Sonde.{Sonde}
+use Rattle.calls.specs.declared.SondeFrame.{SondeFrame}
+use Rattle.calls.specs.Frame.{Outcome, outcome, refusalBytes, confirmationBytes}
+use Rattle.frames.specs.declared.Effect.{Effect}
+use Rattle.frames.specs.declared.Effect.the-variants.{Counted, Stored}
+
+-- ---- what an effect leaves
+
+abbrev pub sizeOf : Effect → ℕ
+sizeOf (Counted size c) = size
+sizeOf (Stored size s x) = size
+
+-- a write that was stored counts good
+abbrev pub changed : Sonde → Effect → Sonde
+changed d (Counted size c) = withCounters d c
+changed d (Stored size s x) = countedGood (withSetup d s x)
+
+-- what is stored is one of the four sensors'
+abbrev pub Fit : Effect → Type 0
+Fit (Counted size c) = Unit {0}
+Fit (Stored size s x) = IsSensor s
+
+abbrev pub finished : ℕ → ℕ → Sonde → SondeFrame
+finished number size d = record { number = number; length = size; sonde = d }
+
+-- all that is left, with the two lent slices as they are then
+abbrev pub leaves : Sonde → Effect → List ℕ → List ℕ → Outcome
+leaves d e reply w = outcome (finished 0 (sizeOf e) (changed d e)) reply w
+
+-- ---- the effect of a write
+
+abbrev pub writeEffect : Counters → List ℕ → ℕ → Written → Effect
+writeEffect c body s (RefusedBy code) = Counted (length (refusalBytes body code)) (exceptionCounted c)
+writeEffect c body s (StoredBy x) = Stored (length (confirmationBytes body)) s x
+writeEffect c body s (Updated x e) = Stored (length (confirmationBytes body)) s x
+
+abbrev pub writeBytes : List ℕ → Written → List ℕ
+writeBytes body (RefusedBy code) = refusalBytes body code
+writeBytes body (StoredBy x) = confirmationBytes body
+writeBytes body (Updated x e) = confirmationBytes body
+
+-- an update also appends its entry
+abbrev pub writeWords : List ℕ → Written → List ℕ
+writeWords w (RefusedBy code) = w
+writeWords w (StoredBy x) = w
+writeWords w (Updated x e) = appendOf w e
