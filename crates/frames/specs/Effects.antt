@@ -7,28 +7,30 @@ use Rattle.journal.specs.Journal.{IsSensor}
 use Rattle.journal.specs.Stores.{appendOf}
 use Rattle.writes.specs.declared.Written.{Written}
 use Rattle.writes.specs.declared.Written.the-variants.{Refused as RefusedBy, Stored as StoredBy, Updated}
-use Rattle.state.specs.Sonde.{exceptionCounted, withSetup, withCounters, countedGood}
-use Rattle.state.specs.declared.Counters.{Counters}
+use Rattle.state.specs.Sonde.{withSetup, withCounters, countedGood, countedException}
 use Rattle.state.specs.declared.Sonde.{Sonde}
 use Rattle.calls.specs.declared.SondeFrame.{SondeFrame}
 use Rattle.calls.specs.Frame.{Outcome, outcome, refusalBytes, confirmationBytes}
 use Rattle.frames.specs.declared.Effect.{Effect}
-use Rattle.frames.specs.declared.Effect.the-variants.{Counted, Stored}
+use Rattle.frames.specs.declared.Effect.the-variants.{Counted, Refused, Stored}
 
 -- ---- what an effect leaves
 
 abbrev pub sizeOf : Effect → ℕ
 sizeOf (Counted size c) = size
+sizeOf (Refused size) = size
 sizeOf (Stored size s x) = size
 
--- a write that was stored counts good
+-- "Others count good, and a refused one also as exception": a write that was stored counts good
 abbrev pub changed : Sonde → Effect → Sonde
 changed d (Counted size c) = withCounters d c
+changed d (Refused size) = countedException d
 changed d (Stored size s x) = countedGood (withSetup d s x)
 
 -- what is stored is one of the four sensors'
 abbrev pub Fit : Effect → Type 0
 Fit (Counted size c) = Unit {0}
+Fit (Refused size) = Unit {0}
 Fit (Stored size s x) = IsSensor s
 
 abbrev pub finished : ℕ → ℕ → Sonde → SondeFrame
@@ -40,10 +42,10 @@ leaves d e reply w = outcome (finished 0 (sizeOf e) (changed d e)) reply w
 
 -- ---- the effect of a write
 
-abbrev pub writeEffect : Counters → List ℕ → ℕ → Written → Effect
-writeEffect c body s (RefusedBy code) = Counted (length (refusalBytes body code)) (exceptionCounted c)
-writeEffect c body s (StoredBy x) = Stored (length (confirmationBytes body)) s x
-writeEffect c body s (Updated x e) = Stored (length (confirmationBytes body)) s x
+abbrev pub writeEffect : List ℕ → ℕ → Written → Effect
+writeEffect body s (RefusedBy code) = Refused (length (refusalBytes body code))
+writeEffect body s (StoredBy x) = Stored (length (confirmationBytes body)) s x
+writeEffect body s (Updated x e) = Stored (length (confirmationBytes body)) s x
 
 abbrev pub writeBytes : List ℕ → Written → List ℕ
 writeBytes body (RefusedBy code) = refusalBytes body code

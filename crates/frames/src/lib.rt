@@ -29,11 +29,21 @@ pub enum Effect {
         length: u16,
         counters: Counters,
     },
+    Refused(u16),
     Stored {
         length: u16,
         sensor: u16,
         setup: Setup,
     },
+}
+
+fn counted(size: u16, counters: Counters) -> Effect
+    ensures { λ r. ⌜ r ≡ Effect.Counted size counters ⌝ }
+{
+    Effect::Counted {
+        length: size,
+        counters,
+    }
 }
 
 fn finish(number: u8, size: u16, sonde: Sonde) -> SondeFrame
@@ -159,7 +169,6 @@ fn spare(volume: &[u16]) -> bool
 
 // A write of one whole field: refused, stored, or an update that is journalled.
 fn write(
-    counters: Counters,
     setup: Setup,
     body: &[u8],
     reply: &mut [u8],
@@ -171,15 +180,12 @@ fn write(
     low: u16,
 ) -> Effect
     requires { ⌜ (256 ≤ length (now reply)) × (6 ≤ length (now body)) × (length (now body) ≤ 254) × IsSensor sensor × (valid (now volume) ≡ true) ⌝ }
-    ensures { λ r. ⌜ r ≡ writeEffect counters (now (body .entry)) sensor (writeOf sensor setup field high low clock (spareIn (now (volume .entry)))) ⌝ }
+    ensures { λ r. ⌜ r ≡ writeEffect (now (body .entry)) sensor (writeOf sensor setup field high low clock (spareIn (now (volume .entry)))) ⌝ }
     ensures { λ _. ⌜ now (reply .exit) ≡ overlay (writeBytes (now (body .entry)) (writeOf sensor setup field high low clock (spareIn (now (volume .entry))))) (now (reply .entry)) ⌝ }
     ensures { λ _. ⌜ now (volume .exit) ≡ writeWords (now (volume .entry)) (writeOf sensor setup field high low clock (spareIn (now (volume .entry)))) ⌝ }
 {
     match writes::write(sensor, setup, field, high, low, clock, spare(volume)) {
-        Written::Refused(code) => Effect::Counted {
-            length: refuse(body, reply, code),
-            counters: counters.count_exception(),
-        },
+        Written::Refused(code) => Effect::Refused(refuse(body, reply, code)),
         Written::Stored(s) => Effect::Stored {
             length: confirm(body, reply),
             sensor,
@@ -217,39 +223,22 @@ fn answer(sonde: Sonde, body: &[u8], reply: &mut [u8], volume: &mut [u16], clock
 {
     let counters = sonde.counters;
     match plans::judge(sonde.address, body) {
-        Plan::Foreign => Effect::Counted {
-            length: 0,
-            counters,
-        },
-        Plan::BroadcastRead => Effect::Counted {
-            length: 0,
-            counters: counters.count_good(),
-        },
-        Plan::Refused(code) => Effect::Counted {
-            length: refuse(body, reply, code),
-            counters: counters.count_exception(),
-        },
-        Plan::Reading { start, count } => Effect::Counted {
-            length: read(sonde, reply, volume, clock, start, count),
-            counters: counters.count_good(),
-        },
+        Plan::Foreign => counted(0, counters),
+        Plan::BroadcastRead => counted(0, counters.count_good()),
+        Plan::Refused(code) => Effect::Refused(refuse(body, reply, code)),
+        Plan::Reading { start, count } => {
+            let size = read(sonde, reply, volume, clock, start, count);
+            counted(size, counters.count_good())
+        }
         Plan::Writing {
             sensor,
             field,
             high,
             low,
-        } => write(
-            counters,
-            sonde.setup(sensor),
-            body,
-            reply,
-            volume,
-            clock,
-            sensor,
-            field,
-            high,
-            low,
-        ),
+        } => {
+            let setup = sonde.setup(sensor);
+            write(setup, body, reply, volume, clock, sensor, field, high, low)
+        }
         Plan::Masking {
             sensor,
             field,
@@ -257,18 +246,8 @@ fn answer(sonde: Sonde, body: &[u8], reply: &mut [u8], volume: &mut [u16], clock
             or_mask,
         } => {
             let word = masked(sonde, sensor, field, and_mask, or_mask);
-            write(
-                counters,
-                sonde.setup(sensor),
-                body,
-                reply,
-                volume,
-                clock,
-                sensor,
-                field,
-                word,
-                0,
-            )
+            let setup = sonde.setup(sensor);
+            write(setup, body, reply, volume, clock, sensor, field, word, 0)
         }
     }
 }
@@ -286,7 +265,8 @@ pub fn frame(
     if reply.len() < 256 {
         return finish(3, 0, sonde);
     }
-    if !calls::agrees(sonde, volume) {
+    let agreed = sonde.is_valid() & calls::journal_agrees(calls::opening(sonde), volume);
+    if !agreed {
         return finish(4, 0, sonde);
     }
     if !rtu::frame::is_good(frame) {
@@ -294,6 +274,7 @@ pub fn frame(
     }
     match answer(sonde, rtu::frame::body(frame), reply, volume, clock) {
         Effect::Counted { length, counters } => finish(0, length, sonde.with_counters(counters)),
+        Effect::Refused(size) => finish(0, size, sonde.count_exception()),
         Effect::Stored {
             length,
             sensor,

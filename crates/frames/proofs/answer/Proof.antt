@@ -1,9 +1,9 @@
 -- `frames::answer` meets its contract. Assumes nothing.
 use native.Mathlib.Omega.{arith}
-use mathlib.Core.Path.{sym, _∙_}
+use mathlib.Core.Path.{refl, sym, _∙_}
 use Rattle.plans.proofs.Plans.{facts-of}
 use Rattle.rtu.specs.Frame.{overlay}
-use Rattle.state.specs.Sonde.{withCounters, countedGood, countedException}
+use Rattle.state.specs.Sonde.{withCounters, countedGood}
 use Rattle.calls.specs.Frame.{refusal, reading, writeAt, maskedWord}
 use Rattle.frames.proofs.Effects.{write-leaves}
 use borrow.Author.Needs.{needs}
@@ -29,7 +29,7 @@ write-requires c κs =
     let j = c .before .before .before .before .before .before in
     let a = j .before .before .before .before .before .args in
     let f = facts-of (a .sonde .address) (a .body .now) (sym (j .judge .ensures) ∙ c .before .before .before .before .sensor .given .1) in
-    (search needs, f .long, search needs, f .located .is-sensor, search needs)
+    (search needs, f .long, search needs, (omega (arith, f .located .is-sensor .0), omega (arith, f .located .is-sensor .1)), search needs)
 
 masked-requires : tie.Need-masked-requires
 masked-requires c κs =
@@ -54,27 +54,31 @@ write-requires-2 c κs =
 
 returns : tie.Need-returns
 unfolding overlay withCounters
-returns c = (simp (← c .before .before .judge .ensures, c .enum-told .given .1), tt)
+returns c =
+    let a = c .before in
+    simp (← a .before .before .judge .ensures, a .enum-told .given .1, c .counted .ensures) (refl, tt)
 
 returns-2 : tie.Need-returns-2
 unfolding overlay withCounters countedGood
 returns-2 c =
-    let a = c .before in
-    (simp (← a .before .before .judge .ensures, a .enum-told2 .given .1, c .count-good .ensures), tt)
+    let g = c .before in
+    let a = g .before in
+    simp (← a .before .before .judge .ensures, a .enum-told2 .given .1, c .counted2 .ensures, g .count-good .ensures) (refl, tt)
 
 returns-3 : tie.Need-returns-3
-unfolding refusal withCounters countedException
+unfolding refusal
 returns-3 c =
-    let a = c .before .before .before in
+    let a = c .before .before in
     let b = a .before .before .before in
-    (simp (← b .before .before .judge .ensures, b .code .given .1, a .refuse .ensures .0, ← a .refuse .ensures .1, c .count-exception .ensures), tt)
+    simp (← b .before .before .judge .ensures, b .code .given .1, a .refuse .ensures .0, ← a .refuse .ensures .1) (refl, tt)
 
 returns-4 : tie.Need-returns-4
 unfolding reading withCounters countedGood
 returns-4 c =
-    let a = c .before .before .before in
+    let g = c .before in
+    let a = g .before .before .before in
     let b = a .before .before .before .before in
-    (simp (← b .before .before .judge .ensures, b .start .given .1, a .read .ensures .0, ← a .read .ensures .1, c .count-good2 .ensures), tt)
+    simp (← b .before .before .judge .ensures, b .start .given .1, a .read .ensures .0, ← a .read .ensures .1, c .counted3 .ensures, g .count-good2 .ensures) (refl, tt)
 
 returns-5 : tie.Need-returns-5
 unfolding writeAt
@@ -114,13 +118,15 @@ answer-spec =
     (tie.spec
     (λ c κs. search needs)
     (λ c. search needs)
-    (λ c. search needs)
     (λ c κs. search needs)
     (λ c. search needs)
     (λ c κs. search needs)
+    (λ c κs. search needs)
+    (λ c. search needs)
     (λ c κs. search needs)
     (λ c. search needs)
     read-requires
+    (λ c κs. search needs)
     (λ c κs. search needs)
     (λ c. search needs)
     setup-requires

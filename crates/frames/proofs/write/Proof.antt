@@ -24,11 +24,11 @@ append-requires c κs =
 
 returns : tie.Need-returns
 returns c =
-    let a = c .before .before .before in
+    let a = c .before .before in
     let b = a .before .before .before in
     let w = b .before .before in
     let u = w .before in
-    simp (← u .spare .ensures, ← w .write .ensures, b .code .given .1, a .refuse .ensures .0, a .refuse .ensures .1, c .count-exception .ensures) (refl, (refl, refl))
+    simp (← u .spare .ensures, ← w .write .ensures, b .code .given .1, a .refuse .ensures .0, a .refuse .ensures .1) (refl, (refl, refl))
 
 returns-2 : tie.Need-returns-2
 returns-2 c =
@@ -54,7 +54,6 @@ write-spec =
     (λ c κs. search needs)
     (λ c κs. search needs)
     (λ c. search needs)
-    (λ c κs. search needs)
     (λ c κs. search needs)
     (λ c. search needs)
     (λ c κs. search needs)
