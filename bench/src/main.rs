@@ -109,5 +109,11 @@ fn main() {
     }
     let (long, short) = (long.expect("a row"), short.expect("a row"));
     let less = |long: Sides, short: Sides| -> Sides { std::array::from_fn(|i| Some(long[i]? - short[i]?)) };
-    print("checksum, each byte", less(long.0, short.0), less(long.1, short.1), SUMMED);
+    let checksum = less(long.0, short.0);
+    print("checksum, each byte", checksum, less(long.1, short.1), SUMMED);
+    let speeds = NAMES
+        .iter()
+        .zip(checksum)
+        .filter_map(|(name, time)| Some(format!("{name} {:.0}", 1000.0 * SUMMED / time?)));
+    println!("\nchecksum, million bytes in a second: {}", speeds.collect::<Vec<_>>().join(", "));
 }
