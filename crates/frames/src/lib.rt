@@ -22,14 +22,16 @@ use state::Counters;
 use state::Sonde;
 use writes::Written;
 
-// What a frame changes of a sonde, with the length of the reply: the counters, or by a write that is stored the setup of a sensor. The sonde
-// is put together once, at the end.
+// What a frame changes of a sonde, with the length of the reply. The sonde is put together once, at the end.
 pub enum Effect {
+    // The counters alone.
     Counted {
         length: u16,
         counters: Counters,
     },
+    // Refused by a code: good and exception.
     Refused(u16),
+    // A write that was carried out: good, and the sensor's setup.
     Stored {
         length: u16,
         sensor: u16,
