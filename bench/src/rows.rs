@@ -62,7 +62,7 @@ pub fn rows() -> Vec<Row> {
     let mut rows = vec![
         row("read of 1 register", 0, Work::Frame(words(3, 0, 1)), true),
         row("read of 24 registers, the longest", 0, Work::Frame(words(3, 130, 24)), true),
-        row("read of 125 registers, code 2", 0, Work::Frame(words(3, 130, 125)), false),
+        row("read of 125 registers, code 2", 0, Work::Frame(words(3, 130, 125)), true),
         row("write of one word", 0, Work::Frame(words(6, 133, 2)), true),
         row(
             "write of a float",
@@ -71,7 +71,7 @@ pub fn rows() -> Vec<Row> {
             true,
         ),
         row("mask write", 0, Work::Frame(framed(&[1, 22, 0, 133, 0, 0, 0, 1])), true),
-        row("update, accepted", 0, Work::Update, false),
+        row("update, accepted", 0, Work::Update, true),
         row("refused: absent register", 0, Work::Frame(words(3, 0x2500, 1)), true),
         row("another's frame", 0, Work::Frame(framed(&[2, 3, 0, 0, 0, 1])), true),
         row(SHORT, 0, Work::Frame(short_bad()), true),
