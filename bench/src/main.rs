@@ -97,17 +97,18 @@ fn main() {
     }
     println!("| work | library ns | twin ns | libmodbus ns | to twin | to libmodbus | library instr. | twin instr. | libmodbus instr. | to twin |");
     println!("|---|---|---|---|---|---|---|---|---|---|");
-    let mut long = None;
-    let mut short = None;
-    for (index, row) in rows().iter().enumerate() {
-        let times = times(row);
-        let counts: Sides = std::array::from_fn(|side| instructions(index, row, NAMES[side]));
-        print(&row.name, times, counts, 1.0);
-        let (is_long, is_short) = rows::is_checksum(row);
-        long = if is_long { Some((times, counts)) } else { long };
-        short = if is_short { Some((times, counts)) } else { short };
-    }
-    let (long, short) = (long.expect("a row"), short.expect("a row"));
+    let rows = rows();
+    let results: Vec<(Sides, Sides)> = rows
+        .iter()
+        .enumerate()
+        .map(|(index, row)| {
+            let (times, counts) = (times(row), NAMES.map(|name| instructions(index, row, name)));
+            print(&row.name, times, counts, 1.0);
+            (times, counts)
+        })
+        .collect();
+    let of = |name| results[rows.iter().position(|row| row.name == name).expect("a row")];
+    let (long, short) = (of(rows::LONG), of(rows::SHORT));
     let less = |long: Sides, short: Sides| -> Sides { std::array::from_fn(|i| Some(long[i]? - short[i]?)) };
     let checksum = less(long.0, short.0);
     print("checksum, each byte", checksum, less(long.1, short.1), SUMMED);

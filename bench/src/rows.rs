@@ -21,7 +21,7 @@ pub struct Row {
 /// Calibrations before a journal is begun again.
 const UPDATES: usize = 16;
 
-pub fn framed(body: &[u8]) -> Vec<u8> {
+fn framed(body: &[u8]) -> Vec<u8> {
     [body, &twin::crc(body).to_le_bytes()].concat()
 }
 
@@ -39,14 +39,14 @@ fn row(name: impl Into<String>, entries: usize, work: Work, libmodbus: bool) -> 
 }
 
 /// A write of 123 registers whose checksum is wrong: 255 bytes, all but two of them summed.
-pub fn long_bad() -> Vec<u8> {
+fn long_bad() -> Vec<u8> {
     let mut frame = framed(&[&[1, 16, 0, 0, 0, 123, 246][..], &[0x5A; 246]].concat());
     frame[254] ^= 0xFF;
     frame
 }
 
 /// The same with one register: 11 bytes.
-pub fn short_bad() -> Vec<u8> {
+fn short_bad() -> Vec<u8> {
     let mut frame = framed(&[1, 16, 0, 0, 0, 1, 2, 0x5A, 0x5A]);
     frame[10] ^= 0xFF;
     frame
@@ -55,8 +55,9 @@ pub fn short_bad() -> Vec<u8> {
 /// Bytes that `long_bad` sums and `short_bad` doesn't.
 pub const SUMMED: f64 = 244.0;
 
-const LONG: &str = "long bad frame";
-const SHORT: &str = "short bad frame";
+/// The rows whose difference is the checksum of `SUMMED` bytes.
+pub const LONG: &str = "long bad frame";
+pub const SHORT: &str = "short bad frame";
 
 pub fn rows() -> Vec<Row> {
     let mut rows = vec![
@@ -89,11 +90,6 @@ pub fn rows() -> Vec<Row> {
         ));
     }
     rows
-}
-
-/// The rows whose difference is the checksum of `SUMMED` bytes.
-pub fn is_checksum(row: &Row) -> (bool, bool) {
-    (row.name == LONG, row.name == SHORT)
 }
 
 impl Row {

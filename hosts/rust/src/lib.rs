@@ -73,15 +73,17 @@ impl fmt::Display for Error {
 
 impl std::error::Error for Error {}
 
-/// What a number says: done, or why not.
+/// What a number says: done, or why not. The library is proved to give no others.
 fn done(number: u8) -> Result<(), Error> {
-    use Error::*;
-    match [BadAddress, ShortVolume, ShortReply, Invalid, NoSensor, NotFinite]
-        .into_iter()
-        .find(|e| *e as u8 == number)
-    {
-        None => Ok(()),
-        Some(error) => Err(error),
+    match number {
+        0 => Ok(()),
+        1 => Err(Error::BadAddress),
+        2 => Err(Error::ShortVolume),
+        3 => Err(Error::ShortReply),
+        4 => Err(Error::Invalid),
+        5 => Err(Error::NoSensor),
+        6 => Err(Error::NotFinite),
+        _ => panic!("the library gave the number {number}, which this crate doesn't know"),
     }
 }
 
