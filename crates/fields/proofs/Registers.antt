@@ -115,10 +115,12 @@ skipped (suc k) (f ∷ fs) owner offset e =
     let p = both (not (holds f owner offset)) (unheld k fs owner offset) e in
     rw (not-true (holds f owner offset) (p .0)) (skipped k fs owner offset (p .1))
 
+-- no row before a register's block holds it
 blocks : below (λ r. unheld (firstRow (r / 100) (r % 100)) fields (r / 100) (r % 100)) 500 ≡ true
 unfolding firstRow holds owns
 blocks = refl
 
+-- the search from its block finds the register's row
 pub begins : (r : ℕ) → fieldAt r ≡ findIn (drop (firstRow (r / 100) (r % 100)) fields) (r / 100) (r % 100)
 unfolding fieldAt
 begins r = go (ltb r 500) refl
