@@ -11,9 +11,9 @@ use lib.Ieee.Bits.{is-true}
 use lib.ListN.{length}
 use borrow.Author.Tests.{ltb-false, le-ltb}
 use Rattle.floats.proofs.Bools.{no, choose}
-use Rattle.calibration.specs.Coefficients.{coefficientsOf}
-use Rattle.calibration.specs.declared.coefficients.Calibration.{Calibration}
-use Rattle.calibration.proofs.Bits.{CoefficientsFit}
+use Rattle.coefficients.specs.Coefficients.{coefficientsOf}
+use Rattle.coefficients.specs.declared.Calibration.{Calibration}
+use Rattle.coefficients.proofs.Bits.{CoefficientsFit}
 use Rattle.entries.specs.Entries.{calibrationFits}
 use Rattle.journal.specs.Journal.{IsSensor, openingOf, validOpening}
 use Rattle.journal.specs.Stores.{beginOf as beginWords, begun}

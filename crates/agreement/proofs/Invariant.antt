@@ -4,8 +4,8 @@ use mathlib.Core.Path.{_≡_, refl, sym, ap, _∙_}
 use mathlib.Core.Bool.{true}
 use Prim.Native.Nat.{ℕ}
 use native.Mathlib.Nat.{zero-add}
-use Rattle.calibration.specs.Coefficients.{sameCalibration}
-use Rattle.calibration.proofs.Bits.{same-calibration-refl}
+use Rattle.coefficients.specs.Coefficients.{sameCalibration}
+use Rattle.coefficients.proofs.Bits.{same-calibration-refl}
 use Rattle.journal.specs.Journal.{IsSensor, openingOf, indicesFrom, latest}
 use Rattle.journal.specs.Valid.{chainOf, valid}
 use Rattle.journal.specs.Replay.{replayOf, replays}

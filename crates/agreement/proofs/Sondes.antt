@@ -12,7 +12,7 @@ use lib.Seq.{set-getD}
 use borrow.Author.Tests.{eqb-true}
 use Rattle.floats.specs.Floats.{finite}
 use Rattle.floats.proofs.Bools.{both}
-use Rattle.calibration.specs.Coefficients.{coefficientsOf}
+use Rattle.coefficients.specs.Coefficients.{coefficientsOf}
 use Rattle.journal.specs.Journal.{IsSensor}
 use Rattle.journal.specs.Replay.{replayOf, replays}
 use Rattle.journal.proofs.Tests.{sensor-cases, replaced-at}

@@ -6,7 +6,7 @@ use mathlib.Core.List.{List, [], _∷_, _++_}
 use Prim.Native.Nat.{ℕ}
 use lib.Dec.{eqb}
 use Rattle.rtu.specs.Frame.{isGood, bodyOf}
-use Rattle.calibration.specs.Methods.{pointsOf}
+use Rattle.methods.specs.Methods.{pointsOf}
 use Rattle.entries.specs.declared.Entry.{Entry}
 use Rattle.writes.specs.Writes.{methodSet}
 use Rattle.plans.specs.Plans.{planOf}

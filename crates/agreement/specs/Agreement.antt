@@ -6,7 +6,7 @@ use mathlib.Core.List.{List, [], _++_}
 use Prim.Native.Nat.{ℕ, suc, _+_, _≤_, _<_}
 use lib.Dec.{eqb}
 use lib.ListN.{length, getD}
-use Rattle.calibration.specs.Coefficients.{allFinite, coefficientsOf, inLimits, sameCalibration}
+use Rattle.coefficients.specs.Coefficients.{allFinite, coefficientsOf, inLimits, sameCalibration}
 use Rattle.entries.specs.declared.Entry.{Entry}
 use Rattle.journal.specs.Journal.{IsSensor, openingOf, indicesFrom, ascends, latest, every, on}
 use Rattle.journal.specs.Layout.{layout}

@@ -4,7 +4,7 @@ use Prim.Native.Nat.{ℕ}
 use lib.Dec.{eqb}
 use lib.Ieee.{Float, binary32, add, sub, mul, div, eq}
 use Rattle.floats.specs.Floats.{near, plusZero, finite}
-use Rattle.calibration.specs.declared.coefficients.Calibration.{Calibration}
+use Rattle.coefficients.specs.declared.Calibration.{Calibration}
 use Rattle.parameters.specs.Parameters.{converted}
 use Rattle.sensors.specs.Sensors.{parameterOf}
 use Rattle.sensors.specs.declared.Setup.{Setup}

@@ -1,7 +1,7 @@
 // The readings of the parameters: value and quality, with the conversion to the units that are set.
 ghost use mathlib.Core.Path.{_≡_};
 ghost use Rattle.readings.specs.Readings.{height, resistivityOf, depthOf, calibratedOf, pressureOf, levelOf, conductivityValue, levelValue, valueOf, workedFrom, judgedReading, readingOf};
-use calibration::coefficients::Calibration;
+use coefficients::Calibration;
 use sensors::Sample;
 use sensors::Sensor;
 use sensors::Setup;

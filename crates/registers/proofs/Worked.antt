@@ -6,7 +6,7 @@ use mathlib.Core.List.{List, [], _∷_}
 use Prim.Native.Nat.{ℕ, zero, suc}
 use lib.Ieee.{Float, add, sub, mul, div, round, ofBits, toBits, le, eq}
 use Rattle.floats.specs.Floats.{near, minus, plusZero, finite, highWord, lowWord}
-use Rattle.calibration.specs.Coefficients.{coefficients, defaultsOf}
+use Rattle.coefficients.specs.Coefficients.{coefficients, defaultsOf}
 use Rattle.parameters.specs.Parameters.{countOf, idOf, defaultUnits, availableUnits, converted}
 use Rattle.sensors.specs.Sensors.{parameterOf, freshParameter, freshSetup, freshSample, freshSensor}
 use Rattle.sensors.specs.Changes.{sample, restarted, calibratedAt, withTrial, withLevel, withParameter, measuredOf}

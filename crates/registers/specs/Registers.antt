@@ -3,9 +3,9 @@ use mathlib.Core.Bool.{_&&_, cond}
 use Prim.Native.Nat.{ℕ, _+_, _-_, _/_, _%_}
 use lib.Dec.{eqb, ltb}
 use Rattle.floats.specs.Floats.{highWord, lowWord}
-use Rattle.calibration.specs.Coefficients.{coefficientsOf}
-use Rattle.calibration.specs.declared.coefficients.Coefficients.{Coefficients}
-use Rattle.calibration.specs.declared.methods.Points.{Points}
+use Rattle.coefficients.specs.Coefficients.{coefficientsOf}
+use Rattle.coefficients.specs.declared.Coefficients.{Coefficients}
+use Rattle.methods.specs.declared.Points.{Points}
 use Rattle.parameters.specs.Parameters.{countOf, idOf, availableUnits}
 use Rattle.sensors.specs.Sensors.{parameterOf}
 use Rattle.sensors.specs.declared.Setup.{Setup}

@@ -2,8 +2,8 @@
 ghost use mathlib.Core.Path.{_≡_};
 ghost use Prim.Native.Nat.{_/_, _%_};
 ghost use Rattle.registers.specs.Registers.{modeOf, shownCoefficients, coefficientRegister, pointRegister, shownId, readingRegister, parameterRegister, headRegister, sensorRegister, deviceRegister};
-use calibration::coefficients::Coefficients;
-use calibration::methods::Points;
+use coefficients::Coefficients;
+use methods::Points;
 use readings::Reading;
 use sensors::Sensor;
 use sensors::Setup;

@@ -7,11 +7,11 @@ use lib.Dec.{T, eqb}
 use lib.Ieee.{Float, binary32, fits}
 use borrow.Author.Tests.{eqb-true}
 use Rattle.floats.specs.Floats.{finite}
-use Rattle.calibration.specs.Coefficients.{allFinite, inLimits}
-use Rattle.calibration.specs.declared.coefficients.Coefficients.{Coefficients}
-use Rattle.calibration.specs.declared.methods.Points.{Points}
-use Rattle.calibration.proofs.Bits.{CoefficientsFit}
-use Rattle.calibration.proofs.Candidates.{PointsFit}
+use Rattle.coefficients.specs.Coefficients.{allFinite, inLimits}
+use Rattle.coefficients.specs.declared.Coefficients.{Coefficients}
+use Rattle.methods.specs.declared.Points.{Points}
+use Rattle.coefficients.proofs.Bits.{CoefficientsFit}
+use Rattle.methods.proofs.Candidates.{PointsFit}
 use Rattle.entries.specs.Entries.{methodAllowed, pointsFinite}
 use Rattle.parameters.specs.Parameters.{idOf, unitsAllowed, levelAllowed}
 use Rattle.sensors.specs.Sensors.{unitsValid, levelValid, sentinelsFinite, validSetup, validSensor}

@@ -8,11 +8,11 @@ use lib.Ieee.{binary32, fits, ofBits}
 use lib.Ieee.Bits.{ofBits-fits}
 use Rattle.floats.specs.Floats.{plusZero, finite}
 use Rattle.floats.proofs.Bools.{both}
-use Rattle.calibration.specs.Coefficients.{allFinite, coefficientsOf, defaultsOf, inLimits}
-use Rattle.calibration.specs.Methods.{points}
-use Rattle.calibration.proofs.Bits.{CoefficientsFit}
-use Rattle.calibration.proofs.Limits.{limits-finite, sensor-cases, defaults-in-limits, defaults-fit}
-use Rattle.calibration.proofs.Candidates.{PointsFit}
+use Rattle.coefficients.specs.Coefficients.{allFinite, coefficientsOf, defaultsOf, inLimits}
+use Rattle.methods.specs.Methods.{points}
+use Rattle.coefficients.proofs.Bits.{CoefficientsFit}
+use Rattle.coefficients.proofs.Limits.{limits-finite, sensor-cases, defaults-in-limits, defaults-fit}
+use Rattle.methods.proofs.Candidates.{PointsFit}
 use Rattle.entries.specs.Entries.{methodAllowed, pointsFinite}
 use Rattle.parameters.specs.Parameters.{idOf, defaultUnits, unitsAllowed, levelAllowed}
 use Rattle.sensors.specs.Sensors.{parameterOf, freshParameter, freshSetup, freshSensor, unitsValid, levelValid, sentinelsFinite, validSetup, validSensor}

@@ -5,11 +5,11 @@ use Prim.Native.Nat.{ℕ}
 use lib.Dec.{eqb}
 use lib.Ieee.{Float}
 use Rattle.floats.specs.Floats.{plusZero}
-use Rattle.calibration.specs.Coefficients.{calibrationOf, coefficientsOf}
-use Rattle.calibration.specs.Methods.{points}
-use Rattle.calibration.specs.declared.coefficients.Coefficients.{Coefficients}
-use Rattle.calibration.specs.declared.coefficients.Calibration.{Calibration}
-use Rattle.calibration.specs.declared.methods.Points.{Points}
+use Rattle.coefficients.specs.Coefficients.{calibrationOf, coefficientsOf}
+use Rattle.methods.specs.Methods.{points}
+use Rattle.coefficients.specs.declared.Coefficients.{Coefficients}
+use Rattle.coefficients.specs.declared.Calibration.{Calibration}
+use Rattle.methods.specs.declared.Points.{Points}
 use Rattle.sensors.specs.declared.Parameter.{Parameter}
 use Rattle.sensors.specs.declared.Setup.{Setup}
 use Rattle.sensors.specs.declared.Sample.{Sample}

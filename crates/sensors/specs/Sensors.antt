@@ -4,8 +4,8 @@ use mathlib.Core.Bool.{Bool, true, false, _&&_, cond}
 use Prim.Native.Nat.{ℕ}
 use lib.Dec.{eqb}
 use Rattle.floats.specs.Floats.{plusZero, finite}
-use Rattle.calibration.specs.Coefficients.{allFinite, calibrationOf, coefficientsOf, defaultsOf, inLimits}
-use Rattle.calibration.specs.Methods.{points}
+use Rattle.coefficients.specs.Coefficients.{allFinite, calibrationOf, coefficientsOf, defaultsOf, inLimits}
+use Rattle.methods.specs.Methods.{points}
 use Rattle.entries.specs.Entries.{methodAllowed, pointsFinite}
 use Rattle.parameters.specs.Parameters.{idOf, defaultUnits, unitsAllowed, levelAllowed}
 use Rattle.sensors.specs.declared.Parameter.{Parameter}

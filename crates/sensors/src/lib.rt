@@ -2,12 +2,12 @@
 ghost use mathlib.Core.Path.{_≡_};
 ghost use Rattle.sensors.specs.Changes.{restarted, calibratedAt, withNext, withMethod, withTrial, withPoints, withLevel, withParameter, measuredOf};
 ghost use Rattle.sensors.specs.Sensors.{parameterOf, freshParameter, freshSetup, freshSample, freshSensor, unitsValid, levelValid, sentinelsFinite, validSetup, validSensor};
-use calibration::coefficients::Calibration;
-use calibration::coefficients::Coefficients;
-use calibration::coefficients::in_limits;
-use calibration::methods::Points;
+use coefficients::Calibration;
+use coefficients::Coefficients;
+use coefficients::in_limits;
 use entries::method_allowed;
 use entries::points_finite;
+use methods::Points;
 
 // A parameter's units and its sentinel, the value that is shown where there is no reading.
 #[repr(C)]

@@ -6,8 +6,8 @@ use Rattle.rtu.specs.Frame.{checksumOf, framed, bodyOf, isGood, overlay}
 use Rattle.modbus.specs.Request.{writeOneOf, writeMaskOf, requestOf, maskedOf}
 use Rattle.replies.specs.Reply.{marked, exceptionBody, echoReply, exceptionReply}
 use Rattle.floats.specs.Floats.{near, minus, finite, floatOf, highWord, lowWord, sameBits, isPlusZero}
-use Rattle.calibration.specs.Coefficients.{allFinite, sameCoefficients, sameCalibration, defaultsOf, inLimits}
-use Rattle.calibration.specs.Methods.{methodOf, candidateOf, verdictOf, judgedOf}
+use Rattle.coefficients.specs.Coefficients.{allFinite, sameCoefficients, sameCalibration, defaultsOf, inLimits}
+use Rattle.methods.specs.Methods.{methodOf, candidateOf, verdictOf, judgedOf}
 use Rattle.entries.specs.Entries.{methodAllowed, pointsFinite, samePoints, validEntry}
 use Rattle.journal.specs.Words.{capacityOf, entryWords, numberAt, floatAt, entryAt}
 use Rattle.journal.specs.Journal.{validOpening}

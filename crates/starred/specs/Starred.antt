@@ -7,13 +7,13 @@ use lib.ListN.{getD, take, replicate}
 use lib.Ieee.{Float, binary32, ofBits, toBits}
 use Rattle.rtu.specs.Crc.{crcOf}
 use Rattle.floats.specs.Floats.{near, plusZero}
-use Rattle.calibration.specs.Methods.{candidateOf, judgedOf, codeOf}
-use Rattle.calibration.specs.declared.coefficients.Coefficients.{Coefficients}
-use Rattle.calibration.specs.declared.methods.Method.the-variants.{Direct, OnePoint, TwoPoints}
-use Rattle.calibration.specs.declared.methods.Candidate.{Candidate}
-use Rattle.calibration.specs.declared.methods.Candidate.the-variants.{Made, ZeroX, SameX}
-use Rattle.calibration.specs.declared.methods.Verdict.{Verdict}
-use Rattle.calibration.specs.declared.methods.Verdict.the-variants.{Accepted, OutsideLimits, NotFinite, Undefined}
+use Rattle.methods.specs.Methods.{candidateOf, judgedOf, codeOf}
+use Rattle.coefficients.specs.declared.Coefficients.{Coefficients}
+use Rattle.methods.specs.declared.Method.the-variants.{Direct, OnePoint, TwoPoints}
+use Rattle.methods.specs.declared.Candidate.{Candidate}
+use Rattle.methods.specs.declared.Candidate.the-variants.{Made, ZeroX, SameX}
+use Rattle.methods.specs.declared.Verdict.{Verdict}
+use Rattle.methods.specs.declared.Verdict.the-variants.{Accepted, OutsideLimits, NotFinite, Undefined}
 use Rattle.state.specs.Sonde.{freshSonde}
 use Rattle.state.specs.declared.Sonde.{Sonde}
 use Rattle.calls.specs.Calls.{Begun, beginOf}

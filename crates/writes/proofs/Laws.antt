@@ -9,12 +9,12 @@ use lib.Ieee.{Float, binary32, fits}
 use Rattle.floats.specs.Floats.{finite, pattern}
 use Rattle.floats.proofs.Bools.{both}
 use Rattle.floats.proofs.Words.{float-of-finite, float-of-fits}
-use Rattle.calibration.specs.Coefficients.{coefficients, allFinite}
-use Rattle.calibration.specs.Methods.{points}
-use Rattle.calibration.specs.declared.coefficients.Coefficients.{Coefficients}
-use Rattle.calibration.specs.declared.methods.Points.{Points}
-use Rattle.calibration.proofs.Bits.{CoefficientsFit}
-use Rattle.calibration.proofs.Candidates.{PointsFit}
+use Rattle.coefficients.specs.Coefficients.{coefficients, allFinite}
+use Rattle.methods.specs.Methods.{points}
+use Rattle.coefficients.specs.declared.Coefficients.{Coefficients}
+use Rattle.methods.specs.declared.Points.{Points}
+use Rattle.coefficients.proofs.Bits.{CoefficientsFit}
+use Rattle.methods.proofs.Candidates.{PointsFit}
 use Rattle.entries.specs.Entries.{pointsFinite}
 use Rattle.fields.specs.declared.Field.{Field}
 use Rattle.sensors.specs.Sensors.{validSetup}

@@ -10,10 +10,10 @@ use Rattle.floats.specs.Floats.{pattern, floatOf}
 use Rattle.floats.specs.declared.FloatOf.{FloatOf}
 use Rattle.floats.specs.declared.FloatOf.the-variants.{Finite, NotFinite}
 use Rattle.floats.proofs.Bools.{both, choose}
-use Rattle.calibration.specs.Methods.{judgedOf}
-use Rattle.calibration.specs.declared.coefficients.Coefficients.{Coefficients}
-use Rattle.calibration.specs.declared.methods.Verdict.{Verdict}
-use Rattle.calibration.specs.declared.methods.Verdict.the-variants.{Accepted, OutsideLimits, NotFinite as CandidateNotFinite, Undefined}
+use Rattle.methods.specs.Methods.{judgedOf}
+use Rattle.coefficients.specs.declared.Coefficients.{Coefficients}
+use Rattle.methods.specs.declared.Verdict.{Verdict}
+use Rattle.methods.specs.declared.Verdict.the-variants.{Accepted, OutsideLimits, NotFinite as CandidateNotFinite, Undefined}
 use Rattle.entries.specs.Entries.{methodAllowed, entryOf}
 use Rattle.parameters.specs.Parameters.{idOf, unitsAllowed, levelAllowed}
 use Rattle.fields.specs.declared.Field.{Field}

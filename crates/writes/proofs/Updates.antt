@@ -6,12 +6,12 @@ use Prim.Native.Nat.{ℕ}
 use native.Mathlib.Omega.{arith}
 use lib.Dec.{eqb}
 use Rattle.floats.proofs.Bools.{no, choose}
-use Rattle.calibration.specs.Coefficients.{allFinite, coefficientsOf, inLimits}
-use Rattle.calibration.specs.Methods.{pointsOf, judgedOf}
-use Rattle.calibration.specs.declared.coefficients.Coefficients.{Coefficients}
-use Rattle.calibration.specs.declared.methods.Verdict.{Verdict}
-use Rattle.calibration.specs.declared.methods.Verdict.the-variants.{Accepted, OutsideLimits, NotFinite, Undefined}
-use Rattle.calibration.proofs.Candidates.{accepted, accepted-fits, method-fits}
+use Rattle.coefficients.specs.Coefficients.{allFinite, coefficientsOf, inLimits}
+use Rattle.methods.specs.Methods.{pointsOf, judgedOf}
+use Rattle.coefficients.specs.declared.Coefficients.{Coefficients}
+use Rattle.methods.specs.declared.Verdict.{Verdict}
+use Rattle.methods.specs.declared.Verdict.the-variants.{Accepted, OutsideLimits, NotFinite, Undefined}
+use Rattle.methods.proofs.Candidates.{accepted, accepted-fits, method-fits}
 use Rattle.entries.specs.Entries.{entryOf, validEntry, entryFits}
 use Rattle.entries.specs.declared.Entry.{Entry}
 use Rattle.entries.proofs.Entries.{entry-method, accepted-valid, accepted-entry-fits}

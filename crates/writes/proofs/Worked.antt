@@ -6,8 +6,8 @@ use mathlib.Core.List.{List, [], _∷_}
 use Prim.Native.Nat.{ℕ, _/_}
 use lib.Ieee.{binary32, sub, mul, div, round, ofBits, toBits, le, eq}
 use Rattle.floats.specs.Floats.{near, minus, finite, floatOf, isPlusZero}
-use Rattle.calibration.specs.Coefficients.{allFinite, defaultsOf, inLimits}
-use Rattle.calibration.specs.Methods.{methodOf, candidateOf, verdictOf, judgedOf}
+use Rattle.coefficients.specs.Coefficients.{allFinite, defaultsOf, inLimits}
+use Rattle.methods.specs.Methods.{methodOf, candidateOf, verdictOf, judgedOf}
 use Rattle.entries.specs.Entries.{methodAllowed}
 use Rattle.parameters.specs.Parameters.{idOf, defaultUnits, unitsAllowed, levelAllowed}
 use Rattle.fields.specs.Fields.{owns, holds, fieldAt}

@@ -7,13 +7,13 @@ use lib.Ieee.{Float}
 use Rattle.floats.specs.Floats.{pattern, floatOf}
 use Rattle.floats.specs.declared.FloatOf.{FloatOf}
 use Rattle.floats.specs.declared.FloatOf.the-variants.{Finite, NotFinite}
-use Rattle.calibration.specs.Coefficients.{coefficients}
-use Rattle.calibration.specs.Methods.{points, methodOf, judgedOf, codeOf as verdictCode}
-use Rattle.calibration.specs.declared.coefficients.Coefficients.{Coefficients}
-use Rattle.calibration.specs.declared.methods.Points.{Points}
-use Rattle.calibration.specs.declared.methods.Method.{Method}
-use Rattle.calibration.specs.declared.methods.Verdict.{Verdict}
-use Rattle.calibration.specs.declared.methods.Verdict.the-variants.{Accepted, OutsideLimits, NotFinite as CandidateNotFinite, Undefined}
+use Rattle.coefficients.specs.Coefficients.{coefficients}
+use Rattle.methods.specs.Methods.{points, methodOf, judgedOf, codeOf as verdictCode}
+use Rattle.coefficients.specs.declared.Coefficients.{Coefficients}
+use Rattle.methods.specs.declared.Points.{Points}
+use Rattle.methods.specs.declared.Method.{Method}
+use Rattle.methods.specs.declared.Verdict.{Verdict}
+use Rattle.methods.specs.declared.Verdict.the-variants.{Accepted, OutsideLimits, NotFinite as CandidateNotFinite, Undefined}
 use Rattle.entries.specs.Entries.{methodAllowed, entryOf}
 use Rattle.parameters.specs.Parameters.{idOf, unitsAllowed, levelAllowed}
 use Rattle.fields.specs.declared.Field.{Field}

@@ -2,16 +2,16 @@
 // to append.
 ghost use mathlib.Core.Path.{_≡_};
 ghost use Rattle.writes.specs.Writes.{updated, commanded, nextWritten, methodWritten, trialAt, coefficientWritten, pointAt, pointWritten, levelWritten, unitsWritten, sentinelWritten, parameterWritten, fieldWritten, writeOf, codeOf};
-use calibration::coefficients::Coefficients;
-use calibration::methods::Points;
-use calibration::methods::Verdict;
-use calibration::methods::judge;
-use calibration::methods::method_of;
+use coefficients::Coefficients;
 use entries::Entry;
 use entries::entry_of;
 use entries::method_allowed;
 use fields::Field;
 use floats::FloatOf;
+use methods::Points;
+use methods::Verdict;
+use methods::judge;
+use methods::method_of;
 use sensors::Setup;
 
 pub enum Written {
