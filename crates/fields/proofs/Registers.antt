@@ -17,7 +17,7 @@ use Rattle.fields.specs.Fields.{fields, owns, holds, findIn, fieldAt, fo
 use Rattle.fields.specs.Map.{inMap}
 use Rattle.fields.specs.Rows.{firstRow}
 use Rattle.fields.proofs.Search.{noField, none, past}
-use Rattle.fields.proofs.Computed.{below, at-number}
+use Rattle.fields.proofs.Computed.{below, every, at-number}
 use Rattle.fields.proofs.Table.{rowAt, Shape, row-shape, Covered, held-parts, held-of, rows-apart}
 
 -- ---- the row that is found
@@ -55,6 +55,19 @@ found-row r f e = (placed fields f (r / 100) (r % 100) e, go (ltb r 500) refl)
 -- what holds of every row holds of the row of a register
 pub found-rule : (P : Field → Type 0) → ((i : ℕ) → i < 40 → P (rowAt i)) → (r : ℕ) (f : Field) → fieldAt r ≡ Row f → P f
 found-rule P rule r f e = let p = found-row r f e .0 in subst P (p .is) (rule (p .index) (p .inside))
+
+in-list : (t : Field → Bool) (fs : List Field) → every t fs ≡ true → (f : Field) (owner offset : ℕ) → findIn fs owner offset ≡ Row f → t f ≡ true
+in-list t [] h f owner offset e = absurd (absent e)
+in-list t (g ∷ fs) h f owner offset e = go (holds g owner offset) e (both (t g) (every t fs) h) (λ k. in-list t fs k f owner offset)
+  where
+    go : (b : Bool) → cond b (Row g) (findIn fs owner offset) ≡ Row f → (t g ≡ true) × (every t fs ≡ true) → (every t fs ≡ true → findIn fs owner offset ≡ Row f → t f ≡ true) → t f ≡ true
+    go true e p rest = rw (same e) at (p .0)
+    go false e p rest = rest (p .1) e
+
+-- a test that every row of the table passes is passed by the row of a register
+pub found-test : (t : Field → Bool) → every t fields ≡ true → (r : ℕ) (f : Field) → fieldAt r ≡ Row f → t f ≡ true
+unfolding fieldAt
+found-test t h r f e = in-list t fields h f (r / 100) (r % 100) e
 
 -- the row of a register owns it and covers its offset
 pub found-covered : (r : ℕ) (f : Field) → fieldAt r ≡ Row f → Covered f (r / 100) (r % 100)
