@@ -1,16 +1,18 @@
--- What a computed test over a list of rows, over two rows of it or over the numbers below a bound says of each. Assumes nothing.
+-- What a computed test over the numbers below a bound or over a list of rows says of each, and of the row that a search finds. Assumes
+-- nothing.
 use mathlib.Core.Path.{_≡_, refl, ap}
-use mathlib.Core.Bool.{Bool, true, false, _&&_, _||_, not}
+use mathlib.Core.Bool.{Bool, true, false, _&&_, _||_, not, cond, false≢true}
 use mathlib.Core.List.{List, [], _∷_}
 use Prim.Native.Nat.{ℕ, zero, suc, _<_}
-use native.Mathlib.Nat.{le-of-suc-le-suc, not-suc-le-zero}
+use native.Mathlib.Nat.{not-suc-le-zero}
 use native.Mathlib.Omega.{arith}
 use lib.Dec.{eqb}
-use lib.ListN.{length, getD}
 use borrow.Author.Tests.{eqb-true, eqb-false}
 use Rattle.floats.proofs.Bools.{both}
 use Rattle.fields.specs.declared.Field.{Field}
-use Rattle.fields.proofs.Search.{noField}
+use Rattle.fields.specs.declared.Found.{Found}
+use Rattle.fields.specs.declared.Found.the-variants.{Row, Absent}
+use Rattle.fields.specs.Fields.{firstOf, found}
 
 -- the second part of a test whose first part fails
 pub other : (a b : Bool) → a ≡ false → (a || b) ≡ true → b ≡ true
@@ -25,28 +27,10 @@ abbrev pub every : (Field → Bool) → List Field → Bool
 every t [] = true
 every t (f ∷ fs) = t f && every t fs
 
--- every two rows of different index pass
-abbrev pub everyTwo : (Field → Field → Bool) → List Field → Bool
-everyTwo t [] = true
-everyTwo t (f ∷ fs) = every (t f) fs && everyTwo t fs
-
 -- every number below n passes
 abbrev pub below : (ℕ → Bool) → ℕ → Bool
 below t zero = true
 below t (suc n) = t n && below t n
-
--- so a row of the list does
-pub at-row : (t : Field → Bool) (fs : List Field) → every t fs ≡ true → (i : ℕ) → i < length fs → t (getD fs i noField) ≡ true
-at-row t [] e i h = absurd (not-suc-le-zero h)
-at-row t (f ∷ fs) e zero h = both (t f) (every t fs) e .0
-at-row t (f ∷ fs) e (suc i) h = at-row t fs (both (t f) (every t fs) e .1) i (le-of-suc-le-suc h)
-
--- so two rows of it do
-pub at-two : (t : Field → Field → Bool) (fs : List Field) → everyTwo t fs ≡ true → (i j : ℕ) → i < j → j < length fs → t (getD fs i noField) (getD fs j noField) ≡ true
-at-two t [] e i j h k = absurd (not-suc-le-zero k)
-at-two t (f ∷ fs) e i zero h k = absurd (not-suc-le-zero h)
-at-two t (f ∷ fs) e zero (suc j) h k = at-row (t f) fs (both (every (t f) fs) (everyTwo t fs) e .0) j (le-of-suc-le-suc k)
-at-two t (f ∷ fs) e (suc i) (suc j) h k = at-two t fs (both (every (t f) fs) (everyTwo t fs) e .1) i j (le-of-suc-le-suc h) (le-of-suc-le-suc k)
 
 -- so a number below the bound does
 pub at-number : (t : ℕ → Bool) (n : ℕ) → below t n ≡ true → (i : ℕ) → i < n → t i ≡ true
@@ -58,3 +42,37 @@ at-number t (suc n) e i h =
     go : (b : Bool) → eqb i n ≡ b → t n ≡ true → (i < n → t i ≡ true) → t i ≡ true
     go true q e rest = rw (eqb-true i n q) e
     go false q e rest = let d : i ≡ n → ⊥ = eqb-false i n q in rest (omega arith)
+
+-- ---- the row that is found
+
+pub absent : {f : Field} → Absent ≡ Row f → ⊥
+absent e = false≢true (ap found e)
+
+pub same : {f g : Field} → Row f ≡ Row g → f ≡ g
+same e = cc
+
+-- it passes the test that was asked, and each that every row passes
+pub first-passes : (t u : Field → Bool) (fs : List Field) → every u fs ≡ true → (f : Field) → firstOf t fs ≡ Row f → (t f ≡ true) × (u f ≡ true)
+first-passes t u [] h f e = absurd (absent e)
+first-passes t u (g ∷ fs) h f e = go (t g) refl e (both (u g) (every u fs) h) (λ k. first-passes t u fs k f)
+  where
+    go : (b : Bool) → t g ≡ b → cond b (Row g) (firstOf t fs) ≡ Row f → (u g ≡ true) × (every u fs ≡ true)
+        → (every u fs ≡ true → firstOf t fs ≡ Row f → (t f ≡ true) × (u f ≡ true)) → (t f ≡ true) × (u f ≡ true)
+    go true q e p rest = (rw (same e) at q, rw (same e) at (p .0))
+    go false q e p rest = rest (p .1) e
+
+-- where a row is found, one is found by any test that it passes
+pub also-found : (t u : Field → Bool) (fs : List Field) (f : Field) → firstOf t fs ≡ Row f → u f ≡ true → found (firstOf u fs) ≡ true
+also-found t u [] f e h = absurd (absent e)
+also-found t u (g ∷ fs) f e h = go (t g) (u g) refl e (also-found t u fs f)
+  where
+    go : (b c : Bool) → u g ≡ c → cond b (Row g) (firstOf t fs) ≡ Row f → (firstOf t fs ≡ Row f → u f ≡ true → found (firstOf u fs) ≡ true)
+        → found (cond c (Row g) (firstOf u fs)) ≡ true
+    go b true q e rest = refl
+    go true false q e rest = absurd (false≢true (rw (q) at (rw (← same e) at h)))
+    go false false q e rest = rest e h
+
+-- none is found by a test that none passes
+pub none-found : (t : Field → Bool) (fs : List Field) → ((f : Field) → t f ≡ false) → firstOf t fs ≡ Absent
+none-found t [] h = refl
+none-found t (f ∷ fs) h = rw (h f) (none-found t fs h)

@@ -1,5 +1,5 @@
 pub mod Computed
 pub mod Registers
+pub mod Runs
 pub mod Search
-pub mod Table
 pub mod Writable

@@ -1,66 +1,73 @@
--- The steps of the search through the table and of the count of registers that exist; no register from 500 on is in the map.
--- Assumes nothing.
-use mathlib.Core.Path.{_≡_, refl, _∙_}
-use mathlib.Core.Bool.{Bool, true, false, _&&_, cond}
+-- The search of the table, row by row from an index on. Assumes nothing.
+use mathlib.Core.Path.{_≡_, refl, sym, _∙_}
+use mathlib.Core.Bool.{Bool, true, false, _&&_, not, and-false}
 use mathlib.Core.List.{List, [], _∷_}
-use Prim.Native.Nat.{ℕ, suc, _+_, _-_, _/_, _%_, _<_, _≤_}
+use Prim.Native.Nat.{ℕ, zero, suc, _+_, _/_, _%_, _<_}
+use native.Mathlib.Nat.{le-of-suc-le-suc, not-suc-le-zero}
 use native.Mathlib.Numerals.{add-one}
 use native.Mathlib.Omega.{arith}
-use lib.Dec.{ltb}
-use lib.ListN.{length, getD, drop}
+use lib.Dec.{eqb, leb, ltb}
+use lib.ListN.{length, getD, take, drop}
 use lib.Seq.{drop-cons}
-use borrow.Author.Tests.{ne-eqb}
+use borrow.Author.Tests.{ltb-true, ne-eqb, not-true}
+use Rattle.floats.proofs.Bools.{both}
 use Rattle.fields.specs.declared.Field.{Field}
+use Rattle.fields.specs.Fields.{field, fields, owns, exactly, firstOf, whole}
 use Rattle.fields.specs.declared.Found.the-variants.{Row, Absent}
-use Rattle.fields.specs.Fields.{field, fields, owns, holds, findIn, fieldAt, found, allFound}
+use Rattle.fields.proofs.Computed.{every}
+use Rattle.fields.proofs.Registers.{Shape, shaped, shape, every-shaped}
+use Rattle.fields.proofs.Runs.{reach, reached, before, half-before}
 
 -- what stands past the table's end
 abbrev pub noField : Field
 noField = field 0 0 0 0
 
-opened : (fs : List Field) (i owner offset : ℕ) → i < length fs → findIn (drop i fs) owner offset ≡ cond (holds (getD fs i noField) owner offset) (Row (getD fs i noField)) (findIn (drop (i + 1) fs) owner offset)
-opened fs i owner offset h = rw (add-one, drop-cons fs i noField)
+module _ (i : ℕ) (h : i < length fields) where
+  -- what is left from a row on
+  from-row : drop i fields ≡ getD fields i noField ∷ drop (i + 1) fields
+  from-row = rw (add-one, drop-cons fields i noField)
 
--- the search stops at a row that holds the register
-pub hit : (i owner offset : ℕ) → i < 40 → holds (getD fields i noField) owner offset ≡ true → findIn (drop i fields) owner offset ≡ Row (getD fields i noField)
-hit i owner offset h e = opened fields i owner offset h ∙ rw e
+  -- a search stops at a row that passes
+  pub hit : (t : Field → Bool) → t (getD fields i noField) ≡ true → firstOf t (drop i fields) ≡ Row (getD fields i noField)
+  hit t e = rw (from-row, e)
 
--- the search goes on at a row that doesn't
-pub miss : (i owner offset : ℕ) → i < 40 → holds (getD fields i noField) owner offset ≡ false → findIn (drop i fields) owner offset ≡ findIn (drop (i + 1) fields) owner offset
-miss i owner offset h e = opened fields i owner offset h ∙ rw e
+  -- it goes on at a row that doesn't
+  pub miss : (t : Field → Bool) → t (getD fields i noField) ≡ false → firstOf t (drop i fields) ≡ firstOf t (drop (i + 1) fields)
+  miss t e = rw (from-row, e)
 
--- only the device and sensors 1 to 4 own fields
-pub unowned : (f : Field) (owner : ℕ) → 5 ≤ owner → owns f owner ≡ false
-unfolding owns
-unowned f owner h = simp (ne-eqb owner 0 (λ e. omega arith), ne-eqb owner 1 (λ e. omega arith), ne-eqb owner 2 (λ e. omega arith), ne-eqb owner 3 (λ e. omega arith), ne-eqb owner 4 (λ e. omega arith))
+  -- the pass over the rows takes each in turn
+  pub more : (owner at : ℕ) → reached (drop i fields) owner at ≡ reached (drop (i + 1) fields) owner (reach (getD fields i noField) owner at)
+  more owner at = rw from-row
 
-not-held : (f : Field) (owner offset : ℕ) → owns f owner ≡ false → holds f owner offset ≡ false
-unfolding holds
-not-held f owner offset e = go (ltb offset (f .offset)) refl
+-- a row by its index has a row's shape
+pub row-shape : (i : ℕ) → i < length fields → Shape (getD fields i noField)
+row-shape i h = shape _ (at fields every-shaped i h)
   where
-    go : (b : Bool) → ltb offset (f .offset) ≡ b → cond b false (owns f owner && ltb (offset - f .offset) (f .words)) ≡ false
-    go true q = refl
-    go false q = rw e
+    at : (fs : List Field) → every shaped fs ≡ true → (i : ℕ) → i < length fs → shaped (getD fs i noField) ≡ true
+    at [] e i h = absurd (not-suc-le-zero h)
+    at (f ∷ fs) e zero h = both (shaped f) (every shaped fs) e .0
+    at (f ∷ fs) e (suc i) h = at fs (both (shaped f) (every shaped fs) e .1) i (le-of-suc-le-suc h)
 
--- so no row holds a register of any other owner
-pub none : (fs : List Field) (owner offset : ℕ) → 5 ≤ owner → findIn fs owner offset ≡ Absent
-none [] owner offset h = refl
-none (f ∷ fs) owner offset h = rw (not-held f owner offset (unowned f owner h)) (none fs owner offset h)
+-- ---- where the search begins
 
--- no register from 500 on is in the map
-pub past : (r : ℕ) → 500 ≤ r → fieldAt r ≡ Absent
-unfolding fieldAt
-past r h = none fields (r / 100) (r % 100) (omega arith)
+skip : (t : Field → Bool) (k : ℕ) (fs : List Field) → every (λ f. not (t f)) (take k fs) ≡ true → firstOf t fs ≡ firstOf t (drop k fs)
+skip t zero fs e = refl
+skip t (suc k) [] e = refl
+skip t (suc k) (f ∷ fs) e =
+    let p = both (not (t f)) (every (λ f. not (t f)) (take k fs)) e in
+    rw (not-true (t f) (p .0)) (skip t k fs (p .1))
 
--- registers from start + i on all exist where this one does and the rest do
-pub more : (start count i : ℕ) → i < count → found (fieldAt (start + i)) ≡ true → allFound (start + i) (count - i) ≡ allFound (start + (i + 1)) (count - (i + 1))
-more start count i h e =
-    let n : count - i ≡ suc (count - (i + 1)) = omega arith in
-    let s : suc (start + i) ≡ start + (i + 1) = omega arith in
-    rw (n, e, s)
+elsewhere : (owner o count : ℕ) (fs : List Field) → every (before o) fs ≡ true → every (λ f. not (exactly f owner o count)) fs ≡ true
+unfolding exactly
+elsewhere owner o count [] e = refl
+elsewhere owner o count (f ∷ fs) e =
+    let p = both (before o f) (every (before o) fs) e in
+    let l : f .offset < o = ltb-true _ _ (both (ltb (f .offset) o) (leb (f .offset + f .words) o) (p .0) .0) in
+    rw (ne-eqb (f .offset) o (λ q. omega arith), and-false) (elsewhere owner o count fs (p .1))
 
--- they don't where this one doesn't
-pub gap : (start count i : ℕ) → i < count → found (fieldAt (start + i)) ≡ false → allFound (start + i) (count - i) ≡ false
-gap start count i h e =
-    let n : count - i ≡ suc (count - (i + 1)) = omega arith in
-    rw (n, e)
+-- the search for a whole field may begin at row offset / 2
+pub begins : (start count : ℕ) → whole start count ≡ firstOf (λ f. exactly f (start / 100) (start % 100) count) (drop (start % 100 / 2) fields)
+unfolding whole
+begins start count =
+    skip (λ f. exactly f (start / 100) (start % 100) count) (start % 100 / 2) fields
+    (elsewhere (start / 100) (start % 100) count (take (start % 100 / 2) fields) (half-before start))

@@ -1,8 +1,10 @@
--- The map of registers as one table of fields. Document 01, "Register map". Assumes nothing.
-use mathlib.Core.Bool.{Bool, true, false, _&&_, cond}
+-- The map of registers as one table of fields: which registers exist, which are one whole field, and which can be written. Document 01,
+-- "Register map". Assumes nothing.
+use mathlib.Core.Bool.{Bool, true, false, _&&_, not, cond}
 use mathlib.Core.List.{List, [], _∷_}
-use Prim.Native.Nat.{ℕ, zero, suc, _-_, _/_, _%_}
-use lib.Dec.{eqb, ltb}
+use Prim.Native.Nat.{ℕ, zero, suc, _+_, _/_, _%_}
+use lib.Bits.{bitAnd}
+use lib.Dec.{eqb, leb, ltb}
 use Rattle.fields.specs.declared.Field.{Field}
 use Rattle.fields.specs.declared.Found.{Found}
 use Rattle.fields.specs.declared.Found.the-variants.{Row, Absent}
@@ -12,6 +14,7 @@ use Rattle.fields.specs.declared.Found.the-variants.{Row, Absent}
 abbrev pub field : ℕ → ℕ → ℕ → ℕ → Field
 field offset words access owners = record { offset = offset; words = words; access = access; owners = owners }
 
+-- an owner's fields stand in the order of their offsets
 abbrev pub fields : List Field
 fields =
     field 0 1 0 1 ∷  -- the map's version
@@ -56,26 +59,30 @@ fields =
     field 53 1 0 2 ∷  -- parameter 3: available units
     []
 
--- owner 0 is the device, owners 1..4 are the sensors
+-- the bit of the owner whose registers begin at 100 × owner: 0 is the device, 1..4 are the sensors; nobody else owns a field
+unfoldable pub ownerBit : ℕ → ℕ
+ownerBit owner =
+    cond (eqb owner 0) 1 (cond (eqb owner 1) 2 (cond (eqb owner 2) 4 (cond (eqb owner 3) 8 (cond (eqb owner 4) 16 0))))
+
 unfoldable pub owns : Field → ℕ → Bool
-owns f owner =
-    cond (eqb owner 0) (eqb (f .owners % 2) 1)
-    (cond (eqb owner 1) (eqb (f .owners / 2 % 2) 1)
-    (cond (eqb owner 2) (eqb (f .owners / 4 % 2) 1)
-    (cond (eqb owner 3) (eqb (f .owners / 8 % 2) 1)
-    (cond (eqb owner 4) (eqb (f .owners / 16 % 2) 1) false))))
+owns f owner = not (eqb (bitAnd (f .owners) (ownerBit owner)) 0)
 
+-- the owner's register at the offset is one of the field's
 unfoldable pub holds : Field → ℕ → ℕ → Bool
-holds f owner offset = cond (ltb offset (f .offset)) false (owns f owner && ltb (offset - f .offset) (f .words))
+holds f owner offset = owns f owner && leb (f .offset) offset && ltb offset (f .offset + f .words)
 
--- the first row that holds the register
-abbrev pub findIn : List Field → ℕ → ℕ → Found
-findIn [] owner offset = Absent
-findIn (f ∷ fs) owner offset = cond (holds f owner offset) (Row f) (findIn fs owner offset)
+-- the owner's registers from the offset on, so many, are the field's, all of them and no other
+unfoldable pub exactly : Field → ℕ → ℕ → ℕ → Bool
+exactly f owner offset count = owns f owner && eqb (f .offset) offset && eqb (f .words) count
+
+-- the first row that passes a test
+abbrev pub firstOf : (Field → Bool) → List Field → Found
+firstOf t [] = Absent
+firstOf t (f ∷ fs) = cond (t f) (Row f) (firstOf t fs)
 
 -- "Sensor s begins at 100 × s"; the device's registers begin at 0
 unfoldable pub fieldAt : ℕ → Found
-fieldAt register = findIn fields (register / 100) (register % 100)
+fieldAt register = firstOf (λ f. holds f (register / 100) (register % 100)) fields
 
 abbrev pub found : Found → Bool
 found (Row f) = true
@@ -86,10 +93,6 @@ abbrev pub allFound : ℕ → ℕ → Bool
 allFound r zero = true
 allFound r (suc n) = found (fieldAt r) && allFound (suc r) n
 
--- "exactly one whole field": a field that begins at the register and has so many words
-abbrev pub wholeIn : ℕ → ℕ → Found → Found
-wholeIn offset count Absent = Absent
-wholeIn offset count (Row f) = cond (eqb (f .offset) offset) (cond (eqb (f .words) count) (Row f) Absent) Absent
-
+-- "exactly one whole field"
 unfoldable pub whole : ℕ → ℕ → Found
-whole start count = wholeIn (start % 100) count (fieldAt start)
+whole start count = firstOf (λ f. exactly f (start / 100) (start % 100) count) fields

@@ -1,6 +1,7 @@
 // What a body of bytes asks for: functions 3, 6, 16 and 22. Nothing here knows which registers exist or what they mean.
 ghost use mathlib.Core.Path.{_≡_};
 ghost use Rattle.modbus.specs.Request.{addressOf, functionOf, requestOf, readOf, writeOneOf, writeManyOf, writeMaskOf, secondOf, codeOf, maskedOf};
+use refusals::codes;
 use rtu::bytes;
 
 pub enum Request {
@@ -159,8 +160,8 @@ pub fn code_of(r: Request) -> u8
     ensures { λ c. ⌜ c ≡ codeOf r ⌝ }
 {
     match r {
-        Request::Unsupported => 1,
-        Request::Malformed => 3,
+        Request::Unsupported => codes::ILLEGAL_FUNCTION,
+        Request::Malformed => codes::ILLEGAL_DATA_VALUE,
         Request::Read { start: _, count: _ } => 0,
         Request::Write {
             start: _,

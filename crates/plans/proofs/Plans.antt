@@ -14,7 +14,8 @@ use Rattle.fields.specs.Fields.{fieldAt, allFound, whole}
 use Rattle.fields.specs.declared.Field.{Field}
 use Rattle.fields.specs.declared.Found.{Found}
 use Rattle.fields.specs.declared.Found.the-variants.{Row, Absent}
-use Rattle.fields.proofs.Registers.{whole-row, all-found-ends, all-found-block}
+use Rattle.fields.proofs.Registers.{whole-row}
+use Rattle.fields.proofs.Runs.{all-found-ends, all-found-block}
 use Rattle.fields.proofs.Writable.{written-sensor}
 use Rattle.plans.specs.Plans.{targetIn, targetOf, readingOf, writingOf, maskingOf, requested, planOf}
 use Rattle.plans.specs.declared.Target.{Target}

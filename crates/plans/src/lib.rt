@@ -4,7 +4,9 @@ ghost use mathlib.Core.Path.{_≡_};
 ghost use Rattle.plans.specs.Plans.{targetOf, readingOf, writingOf, maskingOf, requested, planOf};
 use fields::Field;
 use fields::Found;
+use fields::READ_ONLY;
 use modbus::Request;
+use refusals::codes;
 
 // The field that a write goes to, or the code that refuses it.
 pub enum Target {
@@ -38,32 +40,35 @@ pub enum Plan {
     },
 }
 
-// The field that is exactly these registers, if it can be written at all.
+// The field that is exactly these registers, if it can be written at all. A whole field's registers exist, so they are asked for only where there
+// is none.
 fn locate(start: u16, count: u16) -> Target
     ensures { λ r. ⌜ r ≡ targetOf start count ⌝ }
 {
-    if !fields::all_exist(start, count) {
-        return Target::Unfit(2);
-    }
-    match fields::whole_field(start, count) {
+    match lookup::whole_field(start, count) {
         Found::Row(field) => {
-            if field.access == 0 {
-                return Target::Unfit(0xC2);
+            if field.access == READ_ONLY {
+                return Target::Unfit(codes::READ_ONLY);
             }
             Target::Writable {
                 sensor: start / 100,
                 field,
             }
         }
-        Found::Absent => Target::Unfit(0x80),
+        Found::Absent => {
+            if lookup::all_exist(start, count) {
+                return Target::Unfit(codes::FIELD_MISMATCH);
+            }
+            Target::Unfit(codes::ILLEGAL_DATA_ADDRESS)
+        }
     }
 }
 
 fn plan_read(start: u16, count: u16) -> Plan
     ensures { λ r. ⌜ r ≡ readingOf start count ⌝ }
 {
-    if !fields::all_exist(start, count) {
-        return Plan::Refused(2);
+    if !lookup::all_exist(start, count) {
+        return Plan::Refused(codes::ILLEGAL_DATA_ADDRESS);
     }
     Plan::Reading { start, count }
 }
@@ -101,8 +106,8 @@ fn on_map(request: Request) -> Plan
     ensures { λ r. ⌜ r ≡ requested request ⌝ }
 {
     match request {
-        Request::Unsupported => Plan::Refused(1),
-        Request::Malformed => Plan::Refused(3),
+        Request::Unsupported => Plan::Refused(modbus::code_of(request)),
+        Request::Malformed => Plan::Refused(modbus::code_of(request)),
         Request::Read { start, count } => plan_read(start, count),
         Request::Write {
             start,

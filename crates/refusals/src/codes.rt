@@ -9,6 +9,7 @@ pub const ILLEGAL_DATA_VALUE: u8 = 3;
 pub const ILLEGAL_DATA_ADDRESS: u8 = 2;
 // Not exactly one whole field.
 pub const FIELD_MISMATCH: u8 = 0x80;
+
 pub const READ_ONLY: u8 = 0xC2;
 // A field that is writable in mode only, or an update, with mode off.
 pub const SENSOR_MODE: u8 = 0x92;

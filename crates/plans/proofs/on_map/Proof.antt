@@ -1,16 +1,16 @@
 -- `plans::on_map` meets its contract. Assumes nothing.
-use Rattle.plans.specs.Plans.{readingOf, targetOf}
 use borrow.Author.Needs.{needs}
+use Rattle.plans.specs.Plans.{readingOf, targetOf}
 use Rattle.plans.proofs.on_map.Statement.{statement}
 use Rattle.plans.proofs.on_map.Tie as tie
 
 returns : tie.Need-returns
 unfolding readingOf targetOf
-returns c = simp (c .enum-told .given .1)
+returns c = simp (c .before .enum-told .given .1, c .code-of .ensures)
 
 returns-2 : tie.Need-returns-2
 unfolding readingOf targetOf
-returns-2 c = simp (c .enum-told2 .given .1)
+returns-2 c = simp (c .before .enum-told2 .given .1, c .code-of2 .ensures)
 
 returns-3 : tie.Need-returns-3
 unfolding readingOf targetOf
@@ -29,7 +29,9 @@ on-map-spec =
     tie.close
     (tie.spec
     (λ c. search needs)
+    (λ c κs. search needs)
     (λ c. search needs)
+    (λ c κs. search needs)
     (λ c. search needs)
     (λ c κs. search needs)
     (λ c. search needs)

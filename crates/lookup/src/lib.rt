@@ -1,0 +1,77 @@
+// The search of the table of fields: whether registers exist, and which field they are.
+ghost use mathlib.Core.Path.{_≡_};
+ghost use Prim.Native.Nat.{_+_, _≤_};
+ghost use Rattle.fields.specs.Fields.{ownerBit, allFound, whole};
+ghost use Rattle.lookup.specs.Reach.{reachBy};
+
+pub mod rows; // the table
+
+use crate::rows::FIELDS;
+use crate::rows::ROWS;
+use fields::Field;
+use fields::Found;
+
+// The bit of an owner: 0 is the device, 1 to 4 are the sensors.
+fn owner_bit(owner: u16) -> u8
+    ensures { λ r. ⌜ r ≡ ownerBit owner ⌝ }
+{
+    match owner {
+        0 => 1,
+        1 => 2,
+        2 => 4,
+        3 => 8,
+        4 => 16,
+        _ => 0,
+    }
+}
+
+// The offset that isn't known to exist yet: past the field, where the field holds it.
+fn reach(f: Field, bit: u8, at: u16) -> u16
+    requires { ⌜ f .offset + f .words ≤ 65535 ⌝ }
+    ensures { λ r. ⌜ r ≡ reachBy f bit at ⌝ }
+{
+    let end = f.offset + f.words;
+    if (f.owners & bit != 0) & (f.offset <= at) & (at < end) {
+        return end;
+    }
+    at
+}
+
+// Whether `count` registers from `start` on all exist, in one pass over the rows; none past 0xFFFF does. No row has more than two words, so
+// none before row offset / 2 holds the first.
+pub fn all_exist(start: u16, count: u16) -> bool
+    ensures { λ r. ⌜ r ≡ allFound start count ⌝ }
+{
+    let bit = owner_bit(start / 100);
+    let offset = start % 100;
+    let end = (offset as u32) + (count as u32);
+    let table = FIELDS;
+    let mut at = offset;
+    let mut i = (offset / 2) as usize;
+    while i < ROWS {
+        if end <= (at as u32) {
+            return true;
+        }
+        at = reach(table[i], bit, at);
+        i += 1;
+    }
+    end <= (at as u32)
+}
+
+// The field that is exactly these registers, if there is one.
+pub fn whole_field(start: u16, count: u16) -> Found
+    ensures { λ r. ⌜ r ≡ whole start count ⌝ }
+{
+    let bit = owner_bit(start / 100);
+    let offset = start % 100;
+    let table = FIELDS;
+    let mut i = (offset / 2) as usize;
+    while i < ROWS {
+        let f = table[i];
+        if (f.owners & bit != 0) & (f.offset == offset) & (f.words == count) {
+            return Found::Row(f);
+        }
+        i += 1;
+    }
+    Found::Absent
+}
