@@ -6,13 +6,10 @@ use Prim.Native.Nat.{ℕ}
 use lib.Dec.{eqb, ltb}
 use lib.ListN.{length}
 use Rattle.rtu.specs.Frame.{isGood, bodyOf}
-use Rattle.fields.specs.declared.Field.{Field}
-use Rattle.fields.proofs.Registers.{found-rule}
-use Rattle.fields.proofs.Writable.{writable, writable-rows}
 use Rattle.plans.specs.Plans.{planOf}
 use Rattle.plans.specs.declared.Plan.{Plan}
 use Rattle.plans.specs.declared.Plan.the-variants.{Foreign, BroadcastRead, Refused, Reading, Writing, Masking}
-use Rattle.plans.proofs.Plans.{Located, Facts, plan-facts}
+use Rattle.plans.proofs.Plans.{Facts, plan-facts}
 use Rattle.state.specs.Sonde.{countedGood, countedBad}
 use Rattle.calls.specs.Frame.{reading, writeAt, maskedWord, planned, judged, frameOf, codeBy}
 use Rattle.agreement.specs.Model.{Model, modelPlanned, modelFrame}
@@ -22,11 +19,6 @@ use Rattle.agreement.specs.Accepted.{updatedBy, planIn, calibrates, note
 use Rattle.agreement.proofs.Invariant.{Invariant, agrees-with}
 use Rattle.agreement.proofs.Calls.{Keeps}
 use Rattle.agreement.proofs.Writes.{Answered, counted-keeps, refused-keeps, write-same, masked-same, written-keeps}
-
--- the field of a write has an offset that can be written
-located-writable : {count s : ℕ} {f : Field} → Located count s f → writable (f .offset) ≡ true
-located-writable {f = f} l =
-    found-rule (λ g. (g .access ≡ 0 → ⊥) → writable (g .offset) ≡ true) (λ i h a. writable-rows i h a .0) (l .register) f (l .field) (l .writable)
 
 module _ {x : State} {b : Model} (h : Invariant x b) (body reply : List ℕ) (clock : ℕ) where
   -- what a good frame's body asks for
@@ -48,7 +40,7 @@ module _ {x : State} {b : Model} (h : Invariant x b) (body reply : List ℕ) (cl
   plan-keeps (Masking s f a o) l =
       let k = l .located .is-sensor in
       let m = maskedWord (x .sonde) s f a o in
-      rw (masked-same h s f a o k (located-writable (l .located)), write-same h clock s f m 0 k)
+      rw (masked-same h s f a o (l .located), write-same h clock s f m 0 k)
       (written-keeps h s k f m 0 clock body reply (writeAt (x .sonde) (x .volume) clock s f m 0) refl)
 
 module _ {x : State} {b : Model} (h : Invariant x b) (frame reply : List ℕ) (clock : ℕ) where

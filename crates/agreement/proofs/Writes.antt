@@ -1,16 +1,17 @@
 -- The write of a field is judged the same on the sonde and on the book, and what comes of it keeps the invariant and adds the entries of
 -- accepted calibrations. Assumes nothing.
 use mathlib.Core.Path.{_≡_, refl, sym, ap, _∙_}
-use mathlib.Core.Bool.{Bool, true, false, _&&_, cond}
+use mathlib.Core.Bool.{Bool, true, false, _&&_, _||_, cond}
 use mathlib.Core.List.{List, [], _∷_, _++_}
-use Prim.Native.Nat.{ℕ, _-_, _<_}
+use Prim.Native.Nat.{ℕ, _-_, _%_, _<_, _≤_}
 use native.Mathlib.Omega.{arith}
-use lib.Dec.{eqb}
+use lib.Dec.{eqb, ltb}
 use lib.ListN.{length, set}
-use borrow.Author.Tests.{eqb-true, eq-eqb, ne-eqb, ltb-true}
+use borrow.Author.Tests.{eqb-true, eq-eqb, ne-eqb, ltb-true, ltb-false}
+use Rattle.floats.proofs.Bools.{no}
 use Rattle.entries.specs.declared.Entry.{Entry}
 use Rattle.fields.specs.declared.Field.{Field}
-use Rattle.fields.proofs.Writable.{writable, by-offset}
+use Rattle.fields.proofs.Computed.{other}
 use Rattle.journal.specs.Journal.{Journal, IsSensor, openingOf, on, latest, add}
 use Rattle.journal.specs.Stores.{appendOf}
 use Rattle.journal.proofs.Holds.{Holds, holds-used, append-holds}
@@ -24,9 +25,11 @@ use Rattle.registers.specs.Registers.{parameterRegister, sensorRegister}
 use Rattle.writes.specs.Writes.{codeOf, writeOf}
 use Rattle.writes.specs.declared.Written.{Written}
 use Rattle.writes.specs.declared.Written.the-variants.{Refused, Stored, Updated}
-use Rattle.writes.proofs.Outcomes.{Code, read-only, mode-off, not-listed, not-accepted, journal-full}
+use Rattle.writes.proofs.Outcomes.{Code, mode-off, not-listed, not-accepted, journal-full}
 use Rattle.writes.proofs.Laws.{write-valid, write-fits, stored-active, codes}
+use Rattle.writes.proofs.Rows.{settled, written-part}
 use Rattle.writes.proofs.Updates.{Update, update-facts, update-valid, update-fits, update-entry-valid, update-entry-fits, update-method, update-stores-none}
+use Rattle.plans.proofs.Plans.{Located}
 use Rattle.state.specs.Sonde.{sonde, sensorAt, setupAt, withSetup, countedGood, countedException}
 use Rattle.state.specs.declared.Counters.{Counters}
 use Rattle.calls.specs.Frame.{Outcome, refusal, confirmation, spareIn, writeAt, carried, maskedWord}
@@ -38,12 +41,29 @@ use Rattle.agreement.proofs.Invariant.{Invariant}
 
 -- ---- the same write
 
--- the register of a field that can be written shows no measurement
-unmeasured : (s : ℕ) (x : Sensor) (y : Sample) (o : ℕ) → writable o ≡ true → sensorRegister s x o ≡ sensorRegister s (record { setup = x .setup; sample = y }) o
+-- a choice is the same where both of its arms are
+same-choice : (b : Bool) (m n m' n' : ℕ) → (b ≡ true → m ≡ m') → (b ≡ false → n ≡ n') → cond b m n ≡ cond b m' n'
+same-choice true m n m' n' f g = f refl
+same-choice false m n m' n' f g = g refl
+
+-- a register shows no measurement, unless it is a part of a parameter that does
+unmeasured : (s : ℕ) (x : Sensor) (y : Sample) (o : ℕ) → (30 ≤ o → settled ((o - 30) % 8) ≡ true)
+    → sensorRegister s x o ≡ sensorRegister s (record { setup = x .setup; sample = y }) o
 unfolding sensorRegister parameterRegister
-unmeasured s x y =
-    by-offset (λ o. sensorRegister s x o ≡ sensorRegister s (record { setup = x .setup; sample = y }) o)
-    refl refl refl refl refl refl refl refl refl refl refl refl refl refl refl refl refl
+unmeasured s x y o w =
+    same-choice (ltb o 10) _ _ _ _ (λ e. refl)
+    (λ e. same-choice (ltb o 16) _ _ _ _ (λ e. refl)
+    (λ e. same-choice (ltb o 24) _ _ _ _ (λ e. refl)
+    (λ e. same-choice (ltb o 30) _ _ _ _ (λ e. refl)
+    (λ l. same-choice (ltb o 54) _ _ _ _
+    (λ e. same-choice (eqb part 2) _ _ _ _ (λ e. refl)
+    (λ two. same-choice (eqb part 3) _ _ _ _ (λ e. refl)
+    (λ three. same-choice (eqb part 5) _ _ _ _ (λ e. refl)
+    (λ five. absurd (no (sym five ∙ other (eqb part 3) (eqb part 5) three (other (eqb part 2) (eqb part 3 || eqb part 5) two (w (ltb-false o 30 l)))))))))
+    (λ e. refl)))))
+  where
+    part : ℕ
+    part = (o - 30) % 8
 
 module _ {x : State} {b : Model} (h : Invariant x b) where
   -- an entry is spare in the volume where it is in the book
@@ -57,9 +77,10 @@ module _ {x : State} {b : Model} (h : Invariant x b) where
   write-same clock s f high low k = rw (setup-same (h .matches) s k, spare-same)
 
   -- what a mask makes of the old word
-  pub masked-same : (s : ℕ) (f : Field) (a o : ℕ) → IsSensor s → writable (f .offset) ≡ true → maskedIn b s f a o ≡ maskedWord (x .sonde) s f a o
+  pub masked-same : (s : ℕ) (f : Field) (a o : ℕ) {count : ℕ} → Located count s f → maskedIn b s f a o ≡ maskedWord (x .sonde) s f a o
   unfolding maskedIn maskedWord
-  masked-same s f a o k w = rw (unmeasured s (sensorAt (x .sonde) s) freshSample (f .offset) w, h .matches .each s k .setup-is)
+  masked-same s f a o l =
+      rw (unmeasured s (sensorAt (x .sonde) s) freshSample (f .offset) (written-part (l .register) f (l .field) (l .writable)), h .matches .each s (l .is-sensor) .setup-is)
 
 -- ---- what comes of it
 
@@ -71,7 +92,6 @@ pub record Answered (x : State) (b : Model) (o : Outcome) (c : Model) (k : ℕ) 
 
 -- a code that refuses isn't 0
 code-nonzero : {code : ℕ} → Code code → eqb code 0 ≡ false
-code-nonzero read-only = refl
 code-nonzero mode-off = refl
 code-nonzero not-listed = refl
 code-nonzero not-accepted = refl

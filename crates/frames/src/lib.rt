@@ -186,8 +186,9 @@ fn write(
     ensures { λ _. ⌜ now (reply .exit) ≡ overlay (writeBytes (now (body .entry)) (writeOf sensor setup field high low clock (spareIn (now (volume .entry))))) (now (reply .entry)) ⌝ }
     ensures { λ _. ⌜ now (volume .exit) ≡ writeWords (now (volume .entry)) (writeOf sensor setup field high low clock (spareIn (now (volume .entry)))) ⌝ }
 {
-    match writes::write(sensor, setup, field, high, low, clock, spare(volume)) {
-        Written::Refused(code) => Effect::Refused(refuse(body, reply, code)),
+    let written = writes::write(sensor, setup, field, high, low, clock, spare(volume));
+    match written {
+        Written::Refused(_) => Effect::Refused(refuse(body, reply, writes::code_of(written))),
         Written::Stored(s) => Effect::Stored {
             length: confirm(body, reply),
             sensor,

@@ -3,6 +3,7 @@ ghost use mathlib.Core.Path.{_≡_};
 ghost use Rattle.methods.specs.Methods.{methodOf, methodNumber, pointsOf, candidateOf, verdictOf, judgedOf, codeOf};
 use coefficients::Coefficients;
 use coefficients::in_limits;
+use refusals::codes;
 
 // What a technician notes at a point: x is the sensor's reading, y the standard's value.
 #[repr(C)]
@@ -145,8 +146,8 @@ pub fn code_of(v: Verdict) -> u8
 {
     match v {
         Verdict::Accepted(_) => 0,
-        Verdict::OutsideLimits(_) => 0x97,
-        Verdict::NotFinite => 0x97,
-        Verdict::Undefined => 0x97,
+        Verdict::OutsideLimits(_) => codes::INVALID_CALIBRATION,
+        Verdict::NotFinite => codes::INVALID_CALIBRATION,
+        Verdict::Undefined => codes::INVALID_CALIBRATION,
     }
 }

@@ -136,7 +136,7 @@ module _ (sensor : ℕ) (s : Setup) (f : Field) (high low clock : ℕ) (spare : 
   pub stored-active : (t : Setup) → writeOf sensor s f high low clock spare ≡ Stored t → t .active ≡ s .active
   stored-active t e = change-active sensor s (f .offset) high low (stored-change (write-outcome sensor s f high low clock spare) t e)
 
-  -- a refusal's code is 0xC2, 0x92, 0x84, 0x97 or 0xC0
+  -- a refusal's code is 0x92, 0x84, 0x97 or 0xC0
   pub codes : (code : ℕ) → writeOf sensor s f high low clock spare ≡ Refused code → Code code
   codes code e = of (write-outcome sensor s f high low clock spare) e
     where

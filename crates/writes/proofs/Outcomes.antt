@@ -1,4 +1,4 @@
--- What a write can come to, by cases: refused by one of five codes, one value stored, or an update. Assumes nothing.
+-- What a write can come to, by cases: refused by one of four codes, one value stored, or an update. Assumes nothing.
 use mathlib.Core.Path.{_≡_, refl, subst}
 use mathlib.Core.Bool.{Bool, true, false, _&&_, not}
 use Prim.Native.Nat.{ℕ, _+_, _-_, _/_, _%_, _≤_}
@@ -26,7 +26,6 @@ use Rattle.writes.specs.declared.Written.the-variants.{Refused, Stored, 
 
 -- the codes that refuse a write of a whole field
 pub data Code : ℕ → Type 0 where
-  read-only : Code 0xC2
   mode-off : Code 0x92
   not-listed : Code 0x84
   not-accepted : Code 0x97
@@ -88,7 +87,7 @@ module _ (sensor : ℕ) (s : Setup) (o high low clock : ℕ) (spare : Bool) wher
       (λ e. choose P (unitsAllowed (idOf sensor k) high) _ _ (λ l. stored (units k r i (at 3 e) l)) (λ l. refused not-listed))
       (λ e. choose P (eqb part 5) _ _
       (λ e. float-outcome (sentinelStored s k) refl (λ x f. stored (sentinel k x r i (at 5 e) f)))
-      (λ e. refused read-only)))
+      (λ e. refused not-listed)))
     where
       at : (n : ℕ) → eqb part n ≡ true → (o - 30) % 8 ≡ n
       at n e = let p : part ≡ n = eqb-true part n e in omega arith
@@ -103,7 +102,7 @@ module _ (sensor : ℕ) (s : Setup) (o high low clock : ℕ) (spare : Bool) wher
       (λ e. choose P (leb 10 o && leb o 15) _ _ (λ e. float-outcome (coefficientStored s o) refl (λ x f. stored (coefficient x (between 10 15 e) f)))
       (λ e. choose P (leb 16 o && leb o 23) _ _ (λ e. float-outcome (pointStored s o) refl (λ x f. stored (point x (between 16 23 e) f)))
       (λ e. choose P (leb 30 o && leb o 53) _ _ (λ e. parameter-outcome ((o - 30) / 8 + 1) ((o - 30) % 8) (between 30 53 e) refl refl)
-      (λ e. refused read-only))))))
+      (λ e. refused not-listed))))))
     where
       between : (a b : ℕ) → (leb a o && leb o b) ≡ true → (a ≤ o) × (o ≤ b)
       between a b e = let t = both (leb a o) (leb o b) e in (leb-true a o (t .0), leb-true o b (t .1))
@@ -113,8 +112,7 @@ pub write-outcome : (sensor : ℕ) (s : Setup) (f : Field) (high low clock : ℕ
     → Outcome sensor s (f .offset) high low clock spare (writeOf sensor s f high low clock spare)
 unfolding writeOf
 write-outcome sensor s f high low clock spare =
-    choose P (eqb (f .access) 0) _ _ (λ e. refused read-only)
-    (λ e. choose P (eqb (f .access) 2 && not (s .calibrating)) _ _ (λ e. refused mode-off) (λ e. field-outcome sensor s (f .offset) high low clock spare))
+    choose P (eqb (f .access) 2 && not (s .calibrating)) _ _ (λ e. refused mode-off) (λ e. field-outcome sensor s (f .offset) high low clock spare)
   where
     P : Written → Type 0
     P = Outcome sensor s (f .offset) high low clock spare

@@ -33,20 +33,20 @@ module _ (sensor : ℕ) (s : Setup) (o high low clock : ℕ) (spare : Bool) wher
       let n = high-none (omega arith) in
       simp (n .0, n .1, n .2, le-leb 10 o (omega arith), lt-leb o 15 (omega arith), le-leb 16 o (omega arith), lt-leb o 23 (omega arith), le-leb 30 o l, le-leb o 53 (omega arith))
 
-  -- the other offsets below 10 are read-only
-  pub below-ten : o < 10 → (o ≡ 3 → ⊥) → (o ≡ 5 → ⊥) → (o ≡ 6 → ⊥) → fieldWritten sensor s o high low clock spare ≡ Refused 0xC2
+  -- no writable field is at another offset below 10
+  pub below-ten : o < 10 → (o ≡ 3 → ⊥) → (o ≡ 5 → ⊥) → (o ≡ 6 → ⊥) → fieldWritten sensor s o high low clock spare ≡ Refused 0x84
   unfolding fieldWritten
   below-ten h a b c = let n = none a b c in simp (n .0, n .1, n .2, lt-leb 10 o h, lt-leb 16 o (omega arith), lt-leb 30 o (omega arith))
 
-  -- so are 24..29
-  pub below-thirty : 24 ≤ o → o < 30 → fieldWritten sensor s o high low clock spare ≡ Refused 0xC2
+  -- nor at 24..29
+  pub below-thirty : 24 ≤ o → o < 30 → fieldWritten sensor s o high low clock spare ≡ Refused 0x84
   unfolding fieldWritten
   below-thirty l h =
       let n = high-none (omega arith) in
       simp (n .0, n .1, n .2, le-leb 10 o (omega arith), lt-leb o 15 (omega arith), le-leb 16 o (omega arith), lt-leb o 23 l, lt-leb 30 o h)
 
-  -- and those from 54 on
-  pub past : 54 ≤ o → fieldWritten sensor s o high low clock spare ≡ Refused 0xC2
+  -- nor from 54 on
+  pub past : 54 ≤ o → fieldWritten sensor s o high low clock spare ≡ Refused 0x84
   unfolding fieldWritten
   past l =
       let n = high-none (omega arith) in

@@ -127,9 +127,8 @@ pub update-stores-none : (sensor : ℕ) (s : Setup) (f : Field) (low clock : ℕ
     → writeOf sensor s f 0xE001 low clock spare ≡ Stored t → ⊥
 unfolding writeOf fieldWritten commanded updated
 update-stores-none sensor s f low clock spare t o =
-    rw o (choose P (eqb (f .access) 0) _ _ (λ e. no-code)
-    (λ e. choose P (eqb (f .access) 2 && not (s .calibrating)) _ _ (λ e. no-code)
-    (λ e. choose P (s .calibrating) _ _ (λ e. judged (judgedOf sensor (methodSet s))) (λ e. no-code))))
+    rw o (choose P (eqb (f .access) 2 && not (s .calibrating)) _ _ (λ e. no-code)
+    (λ e. choose P (s .calibrating) _ _ (λ e. judged (judgedOf sensor (methodSet s))) (λ e. no-code)))
   where
     P : Written → Type 0
     P w = w ≡ Stored t → ⊥
@@ -157,13 +156,12 @@ choose-two false x y x' y' f g = g
 by-spare : (sensor : ℕ) (s : Setup) (f : Field) (high low clock : ℕ) → BySpare (writeOf sensor s f high low clock true) (writeOf sensor s f high low clock false)
 unfolding writeOf fieldWritten commanded updated
 by-spare sensor s f high low clock =
-    choose-two (eqb (f .access) 0) _ _ _ _ equal
-    (choose-two (eqb (f .access) 2 && not (s .calibrating)) _ _ _ _ equal
+    choose-two (eqb (f .access) 2 && not (s .calibrating)) _ _ _ _ equal
     (choose-two (eqb (f .offset) 3) _ _ _ _ equal
     (choose-two (eqb (f .offset) 5) _ _ _ _
     (choose-two (eqb high 0xE000) _ _ _ _ equal
     (choose-two (eqb high 0xE001) _ _ _ _ (choose-two (s .calibrating) _ _ _ _ (judged (judgedOf sensor (methodSet s))) equal) equal))
-    equal)))
+    equal))
   where
     judged : (v : Verdict) → BySpare (judgedUpdate sensor s clock true v) (judgedUpdate sensor s clock false v)
     judged (Accepted c) = spent

@@ -78,10 +78,6 @@ pub record Worked : Type 0 where
   -- no entry spare: 0xC0; a bad candidate goes before it: y1 10 gives 1.25, 0x97
   pub full : told (write twoPoints 205 0xE001 0 false) ≡ 0xC0 ∷ []
   pub full-and-bad : told (write (next twoPoints 218 0x4120) 205 0xE001 0 false) ≡ 0x97 ∷ []
-  -- read-only: the sensor's number, a quality, the id of oxygen
-  pub number-read-only : told (write (begun 2 205) 200 1 0 true) ≡ 0xC2 ∷ []
-  pub quality-read-only : told (write (begun 2 205) 234 0 0 true) ≡ 0xC2 ∷ []
-  pub id-read-only : told (write (begun 2 205) 232 20 0 true) ≡ 0xC2 ∷ []
   -- mode off: 0x92 for a method, for a figure that isn't finite, and for an update
   pub method-mode-off : told (write (freshSetup 2) 206 9 0 true) ≡ 0x92 ∷ []
   pub figure-mode-off : told (write (freshSetup 2) 210 0x7FC0 0 true) ≡ 0x92 ∷ []
@@ -112,9 +108,6 @@ worked =
       given-up = refl;
       full = refl;
       full-and-bad = refl;
-      number-read-only = refl;
-      quality-read-only = refl;
-      id-read-only = refl;
       method-mode-off = refl;
       figure-mode-off = refl;
       update-mode-off = refl;

@@ -1,10 +1,11 @@
--- What a write of one whole field does to a sensor's setup. One definition for the frame call and for the control book. Document 01,
--- "Calibration", "Register map" and the codes of "What is sent back": 0xC2, 0x92, 0x84, 0x97, 0xC0 in that order. Assumes nothing.
+-- What a write of one whole field that isn't read-only does to a sensor's setup. One definition for the frame call and for the control book.
+-- Document 01, "Calibration", "Register map" and the codes of "What is sent back": 0x92, 0x84, 0x97, 0xC0 in that order; 0xC2 comes before
+-- them, at `targetIn` of plans. Assumes nothing.
 use mathlib.Core.Bool.{Bool, true, false, _&&_, not, cond}
 use Prim.Native.Nat.{ℕ, _+_, _-_, _/_, _%_}
 use lib.Dec.{eqb, leb}
 use lib.Ieee.{Float}
-use Rattle.floats.specs.Floats.{pattern, floatOf}
+use Rattle.floats.specs.Floats.{pattern, floatOf, codeOf as floatCode}
 use Rattle.floats.specs.declared.FloatOf.{FloatOf}
 use Rattle.floats.specs.declared.FloatOf.the-variants.{Finite, NotFinite}
 use Rattle.coefficients.specs.Coefficients.{coefficients}
@@ -71,10 +72,10 @@ trialAt c offset x =
     cond (eqb offset 10) (coefficients x (c .second) (c .third))
     (cond (eqb offset 12) (coefficients (c .first) x (c .third)) (coefficients (c .first) (c .second) x))
 
--- "float not finite" is 0x84
+-- "float not finite": the code of what two words hold, 0x84
 abbrev pub coefficientStored : Setup → ℕ → FloatOf → Written
 coefficientStored s offset (Finite x) = Stored (withTrial s (trialAt (s .trial) offset x))
-coefficientStored s offset NotFinite = Refused 0x84
+coefficientStored s offset NotFinite = Refused (floatCode NotFinite)
 
 unfoldable pub coefficientWritten : Setup → ℕ → ℕ → ℕ → Written
 coefficientWritten s offset high low = coefficientStored s offset (floatOf high low)
@@ -88,7 +89,7 @@ pointAt p offset x =
 
 abbrev pub pointStored : Setup → ℕ → FloatOf → Written
 pointStored s offset (Finite x) = Stored (withPoints s (pointAt (s .points) offset x))
-pointStored s offset NotFinite = Refused 0x84
+pointStored s offset NotFinite = Refused (floatCode NotFinite)
 
 unfoldable pub pointWritten : Setup → ℕ → ℕ → ℕ → Written
 pointWritten s offset high low = pointStored s offset (floatOf high low)
@@ -109,21 +110,22 @@ unitsWritten sensor s k value =
 -- "+5 sentinel (W, default 0.0)"
 abbrev pub sentinelStored : Setup → ℕ → FloatOf → Written
 sentinelStored s k (Finite x) = Stored (withParameter s k (record { units = parameterOf s k .units; sentinel = x }))
-sentinelStored s k NotFinite = Refused 0x84
+sentinelStored s k NotFinite = Refused (floatCode NotFinite)
 
 unfoldable pub sentinelWritten : Setup → ℕ → ℕ → ℕ → Written
 sentinelWritten s k high low = sentinelStored s k (floatOf high low)
 
--- "+2 id, +3 units (W), .. +5 sentinel (W ..)"; the other parts are read-only
+-- "+2 id, +3 units (W), .. +5 sentinel (W ..)". No writable field is at another part: there 0x84, "value not listed", makes it total
 unfoldable pub parameterWritten : ℕ → Setup → ℕ → ℕ → ℕ → ℕ → Written
 parameterWritten sensor s k part high low =
     cond (eqb part 2) (levelWritten s high)
     (cond (eqb part 3) (unitsWritten sensor s k high)
-    (cond (eqb part 5) (sentinelWritten s k high low) (Refused 0xC2)))
+    (cond (eqb part 5) (sentinelWritten s k high low) (Refused 0x84)))
 
 -- ---- the write
 
--- the field at an offset, by the ranges of the map; high is the first word, low the second
+-- the field at an offset, by the ranges of the map; high is the first word, low the second. No writable field is outside the ranges: there
+-- 0x84 makes it total
 unfoldable pub fieldWritten : ℕ → Setup → ℕ → ℕ → ℕ → ℕ → Bool → Written
 fieldWritten sensor s o high low clock spare =
     cond (eqb o 3) (nextWritten s high low)
@@ -132,10 +134,9 @@ fieldWritten sensor s o high low clock spare =
     (cond (leb 10 o && leb o 15) (coefficientWritten s o high low)
     (cond (leb 16 o && leb o 23) (pointWritten s o high low)
     (cond (leb 30 o && leb o 53) (parameterWritten sensor s ((o - 30) / 8 + 1) ((o - 30) % 8) high low)
-    (Refused 0xC2))))))
+    (Refused 0x84))))))
 
--- "read-only" is 0xC2, then "M field .., mode off" is 0x92, then the value
+-- "M field .., mode off" is 0x92, then the value
 unfoldable pub writeOf : ℕ → Setup → Field → ℕ → ℕ → ℕ → Bool → Written
 writeOf sensor s field high low clock spare =
-    cond (eqb (field .access) 0) (Refused 0xC2)
-    (cond (eqb (field .access) 2 && not (s .calibrating)) (Refused 0x92) (fieldWritten sensor s (field .offset) high low clock spare))
+    cond (eqb (field .access) 2 && not (s .calibrating)) (Refused 0x92) (fieldWritten sensor s (field .offset) high low clock spare)

@@ -12,6 +12,7 @@ use methods::Points;
 use methods::Verdict;
 use methods::judge;
 use methods::method_of;
+use refusals::codes;
 use sensors::Setup;
 
 pub enum Written {
@@ -37,19 +38,18 @@ fn update(sensor: u16, s: Setup, clock: u32, spare: bool) -> Written
 {
     let calibrating = s.calibrating;
     if !calibrating {
-        return Written::Refused(0x92);
+        return Written::Refused(codes::SENSOR_MODE);
     }
     let m = method_of(s.method, s.trial, s.points);
-    match judge(sensor, m) {
+    let verdict = judge(sensor, m);
+    match verdict {
         Verdict::Accepted(c) => {
             if !spare {
-                return Written::Refused(0xC0);
+                return Written::Refused(codes::JOURNAL_FULL);
             }
             Written::Updated(s.calibrate(c, clock), entry_of(sensor, m, c, clock))
         }
-        Verdict::OutsideLimits(_) => Written::Refused(0x97),
-        Verdict::NotFinite => Written::Refused(0x97),
-        Verdict::Undefined => Written::Refused(0x97),
+        _ => Written::Refused(methods::code_of(verdict)),
     }
 }
 
@@ -72,7 +72,7 @@ fn command(sensor: u16, s: Setup, value: u16, clock: u32, spare: bool) -> Writte
             }
             Written::Stored(s)
         }
-        _ => Written::Refused(0x84),
+        _ => Written::Refused(codes::WRITE_VALUE),
     }
 }
 
@@ -87,7 +87,7 @@ fn write_method(sensor: u16, s: Setup, value: u16) -> Written
     ensures { λ r. ⌜ r ≡ methodWritten sensor s value ⌝ }
 {
     if !method_allowed(sensor, value) {
-        return Written::Refused(0x84);
+        return Written::Refused(codes::WRITE_VALUE);
     }
     Written::Stored(s.with_method(value))
 }
@@ -107,12 +107,13 @@ fn trial_at(mut c: Coefficients, offset: u16, x: f32) -> Coefficients
 fn write_coefficient(s: Setup, offset: u16, high: u16, low: u16) -> Written
     ensures { λ r. ⌜ r ≡ coefficientWritten s offset high low ⌝ }
 {
-    match floats::float_of(high, low) {
+    let value = floats::float_of(high, low);
+    match value {
         FloatOf::Finite(x) => {
             let trial = trial_at(s.trial, offset, x);
             Written::Stored(s.with_trial(trial))
         }
-        FloatOf::NotFinite => Written::Refused(0x84),
+        FloatOf::NotFinite => Written::Refused(floats::code_of(value)),
     }
 }
 
@@ -132,12 +133,13 @@ fn point_at(mut p: Points, offset: u16, x: f32) -> Points
 fn write_point(s: Setup, offset: u16, high: u16, low: u16) -> Written
     ensures { λ r. ⌜ r ≡ pointWritten s offset high low ⌝ }
 {
-    match floats::float_of(high, low) {
+    let value = floats::float_of(high, low);
+    match value {
         FloatOf::Finite(x) => {
             let points = point_at(s.points, offset, x);
             Written::Stored(s.with_points(points))
         }
-        FloatOf::NotFinite => Written::Refused(0x84),
+        FloatOf::NotFinite => Written::Refused(floats::code_of(value)),
     }
 }
 
@@ -146,7 +148,7 @@ fn write_level(s: Setup, value: u16) -> Written
     ensures { λ r. ⌜ r ≡ levelWritten s value ⌝ }
 {
     if !parameters::level_allowed(value) {
-        return Written::Refused(0x84);
+        return Written::Refused(codes::WRITE_VALUE);
     }
     Written::Stored(s.with_level(value))
 }
@@ -156,7 +158,7 @@ fn write_units(sensor: u16, s: Setup, k: u16, value: u16) -> Written
 {
     let id = parameters::parameter_id(sensor, k);
     if !parameters::units_allowed(id, value) {
-        return Written::Refused(0x84);
+        return Written::Refused(codes::WRITE_VALUE);
     }
     let mut p = s.parameter(k);
     p.units = value;
@@ -166,17 +168,18 @@ fn write_units(sensor: u16, s: Setup, k: u16, value: u16) -> Written
 fn write_sentinel(s: Setup, k: u16, high: u16, low: u16) -> Written
     ensures { λ r. ⌜ r ≡ sentinelWritten s k high low ⌝ }
 {
-    match floats::float_of(high, low) {
+    let value = floats::float_of(high, low);
+    match value {
         FloatOf::Finite(x) => {
             let mut p = s.parameter(k);
             p.sentinel = x;
             Written::Stored(s.with_parameter(k, p))
         }
-        FloatOf::NotFinite => Written::Refused(0x84),
+        FloatOf::NotFinite => Written::Refused(floats::code_of(value)),
     }
 }
 
-// One of the eight registers of parameter k.
+// A part of parameter k. No field that can be written is at a part other than 2, 3 and 5.
 fn write_parameter(sensor: u16, s: Setup, k: u16, part: u16, high: u16, low: u16) -> Written
     ensures { λ r. ⌜ r ≡ parameterWritten sensor s k part high low ⌝ }
 {
@@ -184,11 +187,11 @@ fn write_parameter(sensor: u16, s: Setup, k: u16, part: u16, high: u16, low: u16
         2 => write_level(s, high),
         3 => write_units(sensor, s, k, high),
         5 => write_sentinel(s, k, high, low),
-        _ => Written::Refused(0xC2),
+        _ => Written::Refused(codes::WRITE_VALUE),
     }
 }
 
-// The field at this offset, once its access allows the write.
+// The field at this offset, once the mode allows the write. No field that can be written is at an offset outside these ranges.
 fn write_field(
     sensor: u16,
     s: Setup,
@@ -216,11 +219,12 @@ fn write_field(
                 low,
             )
         }
-        _ => Written::Refused(0xC2),
+        _ => Written::Refused(codes::WRITE_VALUE),
     }
 }
 
-// The write of a field of a sensor, its value in one word (`high`) or in two; `spare` is whether the journal has room for an entry.
+// The write of a sensor's field that isn't read-only, its value in one word (`high`) or in two; `spare` is whether the journal has room for
+// an entry.
 pub fn write(
     sensor: u16,
     s: Setup,
@@ -233,11 +237,8 @@ pub fn write(
     ensures { λ r. ⌜ r ≡ writeOf sensor s field high low clock spare ⌝ }
 {
     let calibrating = s.calibrating;
-    if field.access == 0 {
-        return Written::Refused(0xC2);
-    }
     if (field.access == 2) & !calibrating {
-        return Written::Refused(0x92);
+        return Written::Refused(codes::SENSOR_MODE);
     }
     write_field(sensor, s, field.offset, high, low, clock, spare)
 }

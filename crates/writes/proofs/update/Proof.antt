@@ -1,9 +1,19 @@
 -- `writes::update` meets its contract. Assumes nothing.
 use mathlib.Core.Path.{_≡_, refl}
 use mathlib.Core.Bool.{Bool, true, false, not, cond}
+use mathlib.Core.List.{[], _∷_}
+use Prim.Native.Nat.{ℕ}
 use borrow.Author.Needs.{needs}
-use Rattle.writes.specs.Writes.{updated}
+use denote.Enum.Declared.{tagOf}
+use types.Run.{OneOf, miss}
+use Rattle.methods.specs.Methods.{codeOf}
+use Rattle.methods.specs.declared.Verdict.{Verdict}
+use Rattle.methods.specs.declared.Verdict.the-variants.{Accepted, OutsideLimits, NotFinite, Undefined}
+use Rattle.methods.proofs.Verdict.{the-type}
+use Rattle.sensors.specs.declared.Setup.{Setup}
+use Rattle.writes.specs.Writes.{judgedUpdate, updated}
 use Rattle.writes.specs.declared.Written.{Written}
+use Rattle.writes.specs.declared.Written.the-variants.{Refused}
 use Rattle.writes.proofs.update.Statement.{statement}
 use Rattle.writes.proofs.update.Tie as tie
 
@@ -11,6 +21,13 @@ use Rattle.writes.proofs.update.Tie as tie
 turned : (b : Bool) (x y : Written) → cond b x y ≡ cond (not b) y x
 turned true x y = refl
 turned false x y = refl
+
+-- a verdict other than the first is refused by its code
+refused : (sensor : ℕ) (s : Setup) (clock : ℕ) (spare : Bool) (v : Verdict) → OneOf (1 ∷ 2 ∷ 3 ∷ []) (tagOf the-type v) → judgedUpdate sensor s clock spare v ≡ Refused (codeOf v)
+refused sensor s clock spare (Accepted c) h = absurd (miss (1 ∷ 2 ∷ 3 ∷ []) 0 tt h)
+refused sensor s clock spare (OutsideLimits c) h = refl
+refused sensor s clock spare NotFinite h = refl
+refused sensor s clock spare Undefined h = refl
 
 returns : tie.Need-returns
 unfolding updated
@@ -24,7 +41,7 @@ returns-2 c =
     let d = b .before in
     let e = d .before in
     let f = e .before in
-    simp (turned (f .args .s .calibrating), e .if1 .left, ← d .method-of .ensures, ← b .judge .ensures, a .c .given .1, turned (f .args .spare), c .if2 .taken)
+    simp (turned (f .args .s .calibrating), e .if1 .left, ← d .method-of .ensures, ← b .judge .ensures, a .verdict .given .1, turned (f .args .spare), c .if2 .taken)
 
 returns-3 : tie.Need-returns-3
 unfolding updated
@@ -36,34 +53,17 @@ returns-3 c =
     let f = e .before in
     let g = f .before in
     let h = g .before in
-    simp (turned (h .args .s .calibrating), g .if1 .left, ← f .method-of .ensures, ← e .judge .ensures, d .c .given .1, turned (h .args .spare), b .if2 .left, ← a .calibrate .ensures, ← c .entry-of .ensures)
+    simp (turned (h .args .s .calibrating), g .if1 .left, ← f .method-of .ensures, ← e .judge .ensures, d .verdict .given .1, turned (h .args .spare), b .if2 .left, ← a .calibrate .ensures, ← c .entry-of .ensures)
 
 returns-4 : tie.Need-returns-4
 unfolding updated
 returns-4 c =
-    let a = c .before .before in
+    let a = c .before in
     let b = a .before in
     let d = b .before in
     let e = d .before in
-    simp (turned (e .args .s .calibrating), d .if1 .left, ← b .method-of .ensures, ← a .judge .ensures, c .enum-told .given .1)
-
-returns-5 : tie.Need-returns-5
-unfolding updated
-returns-5 c =
-    let a = c .before .before in
-    let b = a .before in
-    let d = b .before in
-    let e = d .before in
-    simp (turned (e .args .s .calibrating), d .if1 .left, ← b .method-of .ensures, ← a .judge .ensures, c .enum-told2 .given .1)
-
-returns-6 : tie.Need-returns-6
-unfolding updated
-returns-6 c =
-    let a = c .before .before in
-    let b = a .before in
-    let d = b .before in
-    let e = d .before in
-    simp (turned (e .args .s .calibrating), d .if1 .left, ← b .method-of .ensures, ← a .judge .ensures, c .enum-told3 .given .1)
+    let x = e .before .args in
+    simp (turned (x .s .calibrating), e .if1 .left, ← d .method-of .ensures, ← b .judge .ensures, refused (x .sensor) (x .s) (x .clock) (x .spare) (b .judge .result) (a .match .keys2), c .code-of .ensures)
 
 pub update-spec : {M : Type 1} → statement M
 update-spec =
@@ -76,10 +76,6 @@ update-spec =
     returns-2
     (λ c κs. search needs)
     (λ c κs. search needs)
-    (λ c. search needs)
-    (λ c. search needs)
-    (λ c. search needs)
+    (λ c κs. search needs)
     returns-3
-    returns-4
-    returns-5
-    returns-6)
+    returns-4)
