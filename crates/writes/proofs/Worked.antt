@@ -10,7 +10,7 @@ use Rattle.coefficients.specs.Coefficients.{allFinite, defaultsOf, inLimits}
 use Rattle.methods.specs.Methods.{methodOf, candidateOf, verdictOf, judgedOf}
 use Rattle.entries.specs.Entries.{methodAllowed}
 use Rattle.parameters.specs.Parameters.{idOf, defaultUnits, unitsAllowed, levelAllowed}
-use Rattle.fields.specs.Fields.{owns, holds, fieldAt}
+use Rattle.fields.specs.Fields.{ownerBit, owns, holds, fieldAt}
 use Rattle.fields.specs.declared.Found.{Found}
 use Rattle.fields.specs.declared.Found.the-variants.{Row, Absent}
 use Rattle.sensors.specs.Sensors.{parameterOf, freshParameter, freshSetup}
@@ -97,7 +97,7 @@ pub record Worked : Type 0 where
 
 -- by computation
 pub worked : Worked
-unfolding writeOf fieldWritten parameterWritten sentinelWritten unitsWritten levelWritten pointWritten pointAt coefficientWritten trialAt methodWritten nextWritten commanded updated contentOf fieldAt holds owns restarted calibratedAt withNext withMethod withTrial withPoints withLevel withParameter parameterOf freshParameter freshSetup methodAllowed idOf defaultUnits unitsAllowed levelAllowed methodOf candidateOf verdictOf judgedOf allFinite inLimits defaultsOf near minus finite floatOf isPlusZero sub mul div round ofBits toBits le eq
+unfolding writeOf fieldWritten parameterWritten sentinelWritten unitsWritten levelWritten pointWritten pointAt coefficientWritten trialAt methodWritten nextWritten commanded updated contentOf fieldAt holds owns ownerBit restarted calibratedAt withNext withMethod withTrial withPoints withLevel withParameter parameterOf freshParameter freshSetup methodAllowed idOf defaultUnits unitsAllowed levelAllowed methodOf candidateOf verdictOf judgedOf allFinite inLimits defaultsOf near minus finite floatOf isPlusZero sub mul div round ofBits toBits le eq
 worked =
     record {
       two-points = refl;
