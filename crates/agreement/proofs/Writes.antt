@@ -8,6 +8,8 @@ use native.Mathlib.Omega.{arith}
 use lib.Dec.{eqb}
 use lib.ListN.{length, set}
 use borrow.Author.Tests.{eqb-true, eq-eqb, ne-eqb, ltb-true}
+use Rattle.coefficients.specs.declared.Calibration.{Calibration}
+use Rattle.entries.specs.Entries.{replacedBy}
 use Rattle.entries.specs.declared.Entry.{Entry}
 use Rattle.fields.specs.declared.Field.{Field}
 use Rattle.fields.proofs.Writable.{writable, by-offset}
@@ -134,7 +136,7 @@ module _ {x : State} {b : Model} (h : Invariant x b) where
       -- an update adds its entry, which is that of an accepted calibration
       update-keeps : (y : Setup) (n : Entry) → writeOf s old f high low clock spare ≡ Updated y n
           → Answered x b (carried (x .sonde) body reply (x .volume) s (Updated y n)) (kept b s (Updated y n)) (cond (eqb (f .offset) 5 && eqb high 0xE001) s 0)
-      unfolding hasRoom on calibrated
+      unfolding hasRoom on calibrated replacedBy
       update-keeps y n e =
           rw (eq-eqb (f .offset) 5 (u .is-command), eq-eqb high 0xE001 (u .is-update))
           (record { no-number = refl; invariant = after; entries = rw (ne-eqb s 0 (λ z. omega arith)) (ap (λ (d : Entry). b .journal .entries ++ (d ∷ [])) entry-is) })
@@ -145,8 +147,11 @@ module _ {x : State} {b : Model} (h : Invariant x b) where
           room : length (b .journal .entries) < b .journal .capacity
           room = ltb-true (length (b .journal .entries)) (b .journal .capacity) (sym (spare-same h) ∙ u .has-room)
 
+          before : ℕ → Calibration
+          before t = latest t (openingOf (b .journal .opening) t) (b .journal .entries)
+
           in-force : (t : ℕ) → IsSensor t → (p : Bool) → eqb t s ≡ p
-              → cond p (n .calibration) (latest t (openingOf (b .journal .opening) t) (b .journal .entries)) ≡ (cond p y (setupOf (b .setups) t)) .active
+              → cond p (replacedBy (before t) n) (before t) ≡ (cond p y (setupOf (b .setups) t)) .active
           in-force t l true q = sym (u .journalled)
           in-force t l false q = h .followed t l
 
