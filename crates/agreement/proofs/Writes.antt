@@ -136,7 +136,7 @@ module _ {x : State} {b : Model} (h : Invariant x b) where
       -- an update adds its entry, which is that of an accepted calibration
       update-keeps : (y : Setup) (n : Entry) → writeOf s old f high low clock spare ≡ Updated y n
           → Answered x b (carried (x .sonde) body reply (x .volume) s (Updated y n)) (kept b s (Updated y n)) (cond (eqb (f .offset) 5 && eqb high 0xE001) s 0)
-      unfolding hasRoom on calibrated replacedBy
+      unfolding hasRoom on calibrated
       update-keeps y n e =
           rw (eq-eqb (f .offset) 5 (u .is-command), eq-eqb high 0xE001 (u .is-update))
           (record { no-number = refl; invariant = after; entries = rw (ne-eqb s 0 (λ z. omega arith)) (ap (λ (d : Entry). b .journal .entries ++ (d ∷ [])) entry-is) })
@@ -152,7 +152,8 @@ module _ {x : State} {b : Model} (h : Invariant x b) where
 
           in-force : (t : ℕ) → IsSensor t → (p : Bool) → eqb t s ≡ p
               → cond p (replacedBy (before t) n) (before t) ≡ (cond p y (setupOf (b .setups) t)) .active
-          in-force t l true q = sym (u .journalled)
+          in-force t l true q =
+              ap (λ (c : Calibration). replacedBy c n) (h .followed t l ∙ rw (eqb-true t s q, ← (setup-same (h .matches) s k))) ∙ u .replaced
           in-force t l false q = h .followed t l
 
           after : Invariant (state (confirmation (withSetup (x .sonde) s y) body .sonde) (appendOf (x .volume) n))
@@ -162,7 +163,7 @@ module _ {x : State} {b : Model} (h : Invariant x b) where
               (update-fits s old f high low clock spare y n (setup-fits (h .matches) s k) e) (appendOf (x .volume) n) (add (b .journal) n)
               (append-holds (x .volume) (b .journal) n (h .holds) (update-entry-valid s old f high low clock spare y n (setup-valid (h .matches) s k) e)
               (update-entry-fits s old f high low clock spare y n (setup-fits (h .matches) s k) e) room)
-              (λ t l. latest-snoc t (openingOf (b .journal .opening) t) (b .journal .entries) n ∙ rw (u .sensor-is) (in-force t l (eqb t s) refl))
+              (λ t l. latest-snoc t (openingOf (b .journal .opening) t) (b .journal .entries) n ∙ rw (ap (eqb t) (u .sensor-is)) (in-force t l (eqb t s) refl))
 
           new-is : setupAt (confirmation (withSetup (x .sonde) s y) body .sonde) s ≡ y
           new-is = setup-same (after .matches) s k ∙ setup-replaced (b .setups) s s y (h .matches .four-setups) k k ∙ rw (eq-eqb s s refl)
