@@ -19,6 +19,7 @@ use Rattle.journal.specs.Journal.{IsSensor, openingOf, validOpening}
 use Rattle.journal.specs.Stores.{beginOf as beginWords, begun}
 use Rattle.journal.proofs.Tests.{sensor-cases, four-intro}
 use Rattle.journal.proofs.Holds.{begin-holds}
+use Rattle.audit.specs.Audit.{replayed}
 use Rattle.sensors.specs.Changes.{calibratedAt}
 use Rattle.sensors.specs.declared.Setup.{Setup}
 use Rattle.sensors.proofs.Setups.{valid-setup-parts}
@@ -69,7 +70,7 @@ setup-powered ys = sensor-cases (λ s. setupOf (poweredSetups ys) s .active ≡ 
 
 -- the calibrations that the volume gives are the book's
 pub power-up-keeps : {x : State} {b : Model} → Invariant x b → (address : ℕ) → Keeps x b (PowerUp address)
-unfolding numberOf after modelAfter noted powerUpOf unmade modelPowerUp
+unfolding numberOf after modelAfter noted powerUpOf replayed unmade modelPowerUp
 power-up-keeps {x} {b} h address = go (addressValid address) refl
   where
     go : (v : Bool) → addressValid address ≡ v → Keeps x b (PowerUp address)

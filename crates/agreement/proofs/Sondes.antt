@@ -25,7 +25,7 @@ use Rattle.sensors.proofs.Changed.{calibrated-valid, calibrated-fits, measured-
 use Rattle.state.specs.Sonde.{sonde, freshSonde, noSensor, sensorAt, setupAt, withSensor, withSetup, measuredAt, addressValid, validSonde}
 use Rattle.state.specs.declared.Counters.{Counters}
 use Rattle.state.specs.declared.Sonde.{Sonde}
-use Rattle.calls.specs.Calls.{rawsFinite, poweredSetup, poweredSensor, poweredFrom, powered}
+use Rattle.calls.specs.Calls.{rawsFinite, poweredSetup, poweredSensor, poweredFrom}
 use Rattle.agreement.specs.Model.{setupOf, freshSetups, poweredSetups}
 
 -- sensor s beside its setup in the book
@@ -171,8 +171,8 @@ module _ {d : Sonde} {address : ℕ} {ys : List Setup} (m : Matches d address ys
 
   -- a power-up from a volume whose replay is the calibrations in force
   pub powered-up : (a : ℕ) (w : List ℕ) → addressValid a ≡ true → ((s : ℕ) → IsSensor s → replayOf w s ≡ setupAt d s .active)
-      → Matches (powered a w) a (poweredSetups ys)
-  unfolding replays poweredFrom powered poweredSetups setupOf
+      → Matches (poweredFrom a (replays w)) a (poweredSetups ys)
+  unfolding replays poweredFrom poweredSetups setupOf
   powered-up a w v r = of-four a _ v (one 1 (omega arith)) (one 2 (omega arith)) (one 3 (omega arith)) (one 4 (omega arith))
     where
       one : (s : ℕ) → IsSensor s → SensorMatches s (poweredSensor s (replayOf w s)) (poweredSetup s (getD ys (s - 1) (noSensor .setup) .active))

@@ -9,6 +9,8 @@ use lib.Dec.{eqb, ltb}
 use lib.ListN.{length, set}
 use borrow.Author.Tests.{eqb-true, eq-eqb, ne-eqb, ltb-true, ltb-false}
 use Rattle.floats.proofs.Bools.{no}
+use Rattle.coefficients.specs.declared.Calibration.{Calibration}
+use Rattle.entries.specs.Entries.{replacedBy}
 use Rattle.entries.specs.declared.Entry.{Entry}
 use Rattle.fields.specs.declared.Field.{Field}
 use Rattle.fields.proofs.Computed.{other}
@@ -165,9 +167,13 @@ module _ {x : State} {b : Model} (h : Invariant x b) where
           room : length (b .journal .entries) < b .journal .capacity
           room = ltb-true (length (b .journal .entries)) (b .journal .capacity) (sym (spare-same h) ∙ u .has-room)
 
+          before : ℕ → Calibration
+          before t = latest t (openingOf (b .journal .opening) t) (b .journal .entries)
+
           in-force : (t : ℕ) → IsSensor t → (p : Bool) → eqb t s ≡ p
-              → cond p (n .calibration) (latest t (openingOf (b .journal .opening) t) (b .journal .entries)) ≡ (cond p y (setupOf (b .setups) t)) .active
-          in-force t l true q = sym (u .journalled)
+              → cond p (replacedBy (before t) n) (before t) ≡ (cond p y (setupOf (b .setups) t)) .active
+          in-force t l true q =
+              ap (λ (c : Calibration). replacedBy c n) (h .followed t l ∙ rw (eqb-true t s q, ← (setup-same (h .matches) s k))) ∙ u .replaced
           in-force t l false q = h .followed t l
 
           after : Invariant (state (confirmation (withSetup (x .sonde) s y) body .sonde) (appendOf (x .volume) n))
@@ -177,7 +183,7 @@ module _ {x : State} {b : Model} (h : Invariant x b) where
               (update-fits s old f high low clock spare y n (setup-fits (h .matches) s k) e) (appendOf (x .volume) n) (add (b .journal) n)
               (append-holds (x .volume) (b .journal) n (h .holds) (update-entry-valid s old f high low clock spare y n (setup-valid (h .matches) s k) e)
               (update-entry-fits s old f high low clock spare y n (setup-fits (h .matches) s k) e) room)
-              (λ t l. latest-snoc t (openingOf (b .journal .opening) t) (b .journal .entries) n ∙ rw (u .sensor-is) (in-force t l (eqb t s) refl))
+              (λ t l. latest-snoc t (openingOf (b .journal .opening) t) (b .journal .entries) n ∙ rw (ap (eqb t) (u .sensor-is)) (in-force t l (eqb t s) refl))
 
           new-is : setupAt (confirmation (withSetup (x .sonde) s y) body .sonde) s ≡ y
           new-is = setup-same (after .matches) s k ∙ setup-replaced (b .setups) s s y (h .matches .four-setups) k k ∙ rw (eq-eqb s s refl)

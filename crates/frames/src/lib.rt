@@ -14,6 +14,7 @@ ghost use Rattle.frames.specs.Effects.{finished, leaves, Fit, writeEffec
 use calls::SondeFrame;
 use fields::Field;
 use plans::Plan;
+use refusals::numbers;
 use registers::Device;
 use rtu::bytes;
 use sensors::Sensor;
@@ -266,25 +267,29 @@ pub fn frame(
     ensures { λ r. ⌜ outcome r (now (reply .exit)) (now (volume .exit)) ≡ frameOf sonde (now (frame .entry)) (now (reply .entry)) (now (volume .entry)) clock ⌝ }
 {
     if reply.len() < 256 {
-        return finish(3, 0, sonde);
+        return finish(numbers::SHORT_REPLY, 0, sonde);
     }
     let agreed = sonde.is_valid() & calls::journal_agrees(calls::opening(sonde), volume);
     if !agreed {
-        return finish(4, 0, sonde);
+        return finish(numbers::DISAGREEMENT, 0, sonde);
     }
     if !rtu::frame::is_good(frame) {
-        return finish(0, 0, sonde.count_bad());
+        return finish(numbers::DONE, 0, sonde.count_bad());
     }
     match answer(sonde, rtu::frame::body(frame), reply, volume, clock) {
-        Effect::Counted { length, counters } => finish(0, length, sonde.with_counters(counters)),
-        Effect::Refused(size) => finish(0, size, sonde.count_exception()),
+        Effect::Counted { length, counters } => finish(
+            numbers::DONE,
+            length,
+            sonde.with_counters(counters),
+        ),
+        Effect::Refused(size) => finish(numbers::DONE, size, sonde.count_exception()),
         Effect::Stored {
             length,
             sensor,
             setup,
         } => {
             let stored = sonde.with_setup(sensor, setup);
-            finish(0, length, stored.count_good())
+            finish(numbers::DONE, length, stored.count_good())
         }
     }
 }

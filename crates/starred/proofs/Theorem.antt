@@ -8,7 +8,7 @@ use Rattle.replies.specs.Reply.{marked, exceptionBody, echoReply, exceptionRepl
 use Rattle.floats.specs.Floats.{near, minus, finite, floatOf, highWord, lowWord, sameBits, isPlusZero}
 use Rattle.coefficients.specs.Coefficients.{allFinite, sameCoefficients, sameCalibration, defaultsOf, inLimits}
 use Rattle.methods.specs.Methods.{methodOf, candidateOf, verdictOf, judgedOf}
-use Rattle.entries.specs.Entries.{methodAllowed, pointsFinite, samePoints, validEntry}
+use Rattle.entries.specs.Entries.{methodAllowed, pointsFinite, samePoints, validEntry, replacedBy}
 use Rattle.journal.specs.Words.{capacityOf, entryWords, numberAt, floatAt, entryAt}
 use Rattle.journal.specs.Journal.{validOpening}
 use Rattle.journal.specs.Layout.{header}
@@ -33,7 +33,7 @@ unfolding crcBit crcBits crcByte crcFrom crcOf checksumOf framed bodyOf isGood o
     writeOneOf writeMaskOf requestOf maskedOf marked exceptionBody echoReply exceptionReply
     ofBits toBits round sub mul div le eq near minus finite floatOf highWord lowWord sameBits isPlusZero
     allFinite sameCoefficients sameCalibration defaultsOf inLimits methodOf candidateOf verdictOf judgedOf
-    methodAllowed pointsFinite samePoints validEntry capacityOf entryWords numberAt floatAt entryAt validOpening header beginWords appendOf
+    methodAllowed pointsFinite samePoints validEntry replacedBy capacityOf entryWords numberAt floatAt entryAt validOpening header beginWords appendOf
     validHeader openingAt validOpenings validEntryAt chainOf validLink validChain validChains validEntries valid replayOf replays
     idOf defaultUnits unitsAllowed levelAllowed owns holds fieldAt wholeField
     freshParameter freshSetup freshSensor unitsValid levelValid sentinelsFinite validSetup validSensor restarted calibratedAt

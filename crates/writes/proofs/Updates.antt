@@ -12,7 +12,7 @@ use Rattle.coefficients.specs.declared.Coefficients.{Coefficients}
 use Rattle.methods.specs.declared.Verdict.{Verdict}
 use Rattle.methods.specs.declared.Verdict.the-variants.{Accepted, OutsideLimits, NotFinite, Undefined}
 use Rattle.methods.proofs.Candidates.{accepted, accepted-fits, method-fits}
-use Rattle.entries.specs.Entries.{entryOf, validEntry, entryFits}
+use Rattle.entries.specs.Entries.{entryOf, validEntry, replacedBy, entryFits}
 use Rattle.entries.specs.declared.Entry.{Entry}
 use Rattle.entries.proofs.Entries.{entry-method, accepted-valid, accepted-entry-fits}
 use Rattle.fields.specs.declared.Field.{Field}
@@ -40,6 +40,7 @@ pub record Update (sensor : ℕ) (s : Setup) (f : Field) (high clock : ℕ) (spa
   pub time-is : t .active .time ≡ clock
   pub setup-is : t ≡ calibratedAt s (coefficientsOf (t .active)) clock
   pub journalled : t .active ≡ e .calibration
+  pub replaced : replacedBy (s .active) e ≡ t .active
   pub sensor-is : e .sensor ≡ sensor
   pub points-are : e .points ≡ pointsOf (methodSet s)
   pub entry-is : e ≡ entryOf sensor (methodSet s) (coefficientsOf (t .active)) clock
@@ -47,7 +48,7 @@ pub record Update (sensor : ℕ) (s : Setup) (f : Field) (high clock : ℕ) (spa
 module _ (sensor : ℕ) (s : Setup) (f : Field) (high low clock : ℕ) (spare : Bool) (t : Setup) (e : Entry) where
   -- an accepted update says all that
   pub update-facts : writeOf sensor s f high low clock spare ≡ Updated t e → Update sensor s f high clock spare t e
-  unfolding calibratedAt
+  unfolding calibratedAt replacedBy
   update-facts w = of (write-outcome sensor s f high low clock spare) w
     where
       made : (c : Coefficients) → f .offset ≡ 5 → high ≡ 0xE001 → s .calibrating ≡ true → spare ≡ true → judgedOf sensor (methodSet s) ≡ Accepted c
@@ -64,6 +65,7 @@ module _ (sensor : ℕ) (s : Setup) (f : Field) (high low clock : ℕ) (spare : 
             time-is = refl;
             setup-is = refl;
             journalled = refl;
+            replaced = refl;
             sensor-is = refl;
             points-are = refl;
             entry-is = refl;
