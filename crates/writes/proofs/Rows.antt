@@ -1,16 +1,16 @@
 -- What the table has of the fields that can be written, by the ranges that a write tells apart: each rule is a computed test over the rows.
 -- Assumes nothing.
 use mathlib.Core.Path.{_≡_, refl}
-use mathlib.Core.Bool.{Bool, true, false, _&&_, _||_, not, cond, Bool·beq}
+use mathlib.Core.Bool.{Bool, true, _&&_, _||_, not, cond, Bool·beq}
 use Prim.Native.Nat.{ℕ, _-_, _/_, _%_, _≤_}
 use lib.Dec.{eqb, leb, ltb}
 use borrow.Author.Tests.{eqb-true, eq-eqb, ne-eqb, le-leb}
-use Rattle.floats.proofs.Bools.{no, beq-true, by-number}
+use Rattle.floats.proofs.Bools.{beq-true}
 use Rattle.fields.specs.declared.Field.{Field}
 use Rattle.fields.specs.declared.Found.the-variants.{Row}
-use Rattle.fields.specs.Fields.{fields, owns, fieldAt}
-use Rattle.fields.proofs.Computed.{other, given, every}
-use Rattle.fields.proofs.Registers.{found-test, found-covered}
+use Rattle.fields.specs.Fields.{fields, ownerBit, owns, fieldAt}
+use Rattle.fields.proofs.Computed.{other, given, every, below, at-number}
+use Rattle.fields.proofs.Registers.{owner-below, found-test, found-covered}
 
 -- the fields of one word: the command, the method, and of a parameter the id and the units, parts 2 and 3
 abbrev pub oneWord : ℕ → Bool
@@ -19,17 +19,6 @@ oneWord o = cond (ltb o 30) (eqb o 5 || eqb o 6) (leb ((o - 30) % 8) 3)
 -- the parts of a parameter that show no measurement
 abbrev pub settled : ℕ → Bool
 settled part = eqb part 2 || (eqb part 3 || eqb part 5)
-
--- only sensor 3 owns what is its alone
-sensor-3 : (f : Field) (owner : ℕ) → f .owners ≡ 8 → owns f owner ≡ true → owner ≡ 3
-unfolding owns
-sensor-3 f owner e h =
-    by-number owner 0 _ _ (λ i t. absurd (no t))
-    (by-number owner 1 _ _ (λ i t. absurd (no t))
-    (by-number owner 2 _ _ (λ i t. absurd (no t))
-    (by-number owner 3 _ _ (λ i t. i)
-    (by-number owner 4 _ _ (λ i t. absurd (no t)) (λ t. absurd (no t))))))
-    (rw e at h)
 
 -- the row of a register, where it can be written
 module _ (r : ℕ) (f : Field) (found : fieldAt r ≡ Row f) (writable : f .access ≡ 0 → ⊥) where
@@ -61,9 +50,11 @@ module _ (r : ℕ) (f : Field) (found : fieldAt r ≡ Row f) (writable : f .acce
 
   -- and sensor 3's
   pub level-sensor : (o - 30) % 8 ≡ 2 → r / 100 ≡ 3
+  unfolding owns ownerBit
   level-sensor p =
-      let w : f .owners ≡ 8 = eqb-true (f .owners) 8 (rule (λ g. eqb ((g .offset - 30) % 8) 2) (λ g. eqb (g .owners) 8) refl (eq-eqb ((o - 30) % 8) 2 p)) in
-      sensor-3 f (r / 100) w (found-covered r f found .owned)
+      let own = found-covered r f found .owned in
+      let only = rule (λ g. eqb ((g .offset - 30) % 8) 2) (λ g. below (λ k. not (owns g k) || eqb k 3) 5) refl (eq-eqb ((o - 30) % 8) 2 p) in
+      eqb-true (r / 100) 3 (given (owns f (r / 100)) (eqb (r / 100) 3) (at-number (λ k. not (owns f k) || eqb k 3) 5 only (r / 100) (owner-below f (r / 100) own)) own)
 
   -- of a parameter no part that shows a measurement can be written
   pub written-part : 30 ≤ o → settled ((o - 30) % 8) ≡ true
