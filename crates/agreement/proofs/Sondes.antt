@@ -17,7 +17,7 @@ use Rattle.journal.specs.Journal.{IsSensor}
 use Rattle.journal.specs.Replay.{replayOf, replays}
 use Rattle.journal.proofs.Tests.{sensor-cases, replaced-at}
 use Rattle.sensors.specs.Sensors.{freshSetup, freshSensor, validSetup, validSensor}
-use Rattle.sensors.specs.Changes.{calibratedAt}
+use Rattle.sensors.specs.Changes.{calibratedAt, measuredSensor, sensorWithSetup}
 use Rattle.sensors.specs.declared.Setup.{Setup}
 use Rattle.sensors.specs.declared.Sensor.{Sensor}
 use Rattle.sensors.proofs.Setups.{SetupFits, valid-setup-parts, valid-sensor-parts, fresh-valid, fresh-fits, fresh-sensor-valid}
@@ -148,7 +148,7 @@ module _ {d : Sonde} {address : ℕ} {ys : List Setup} (m : Matches d address ys
 
   -- a valid setup stored
   pub with-setup : (s : ℕ) → IsSensor s → (y : Setup) → validSetup s y ≡ true → SetupFits y → Matches (withSetup d s y) address (set ys (s - 1) y)
-  unfolding withSetup validSensor
+  unfolding withSetup sensorWithSetup validSensor
   with-setup s k y v f =
       let t = valid-sensor-parts s (sensorAt d s) (m .each s k .valid-sensor) in
       replaced s k _ y (record { setup-is = refl; valid-sensor = rw (v, t .1, t .2); fits = f })
@@ -156,7 +156,7 @@ module _ {d : Sonde} {address : ℕ} {ys : List Setup} (m : Matches d address ys
   -- a measurement of finite raws
   pub measured : (s : ℕ) → IsSensor s → (present : Bool) (first second : Float) → rawsFinite s present first second ≡ true
       → Matches (measuredAt d s present first second) address ys
-  unfolding measuredAt setupAt setupOf
+  unfolding measuredAt measuredSensor setupAt setupOf
   measured s k present first second f =
       rw (set-getD ys (s - 1) (noSensor .setup)) at
       (replaced s k _ (getD ys (s - 1) (noSensor .setup))

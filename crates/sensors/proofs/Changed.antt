@@ -15,7 +15,7 @@ use Rattle.methods.proofs.Candidates.{PointsFit}
 use Rattle.entries.specs.Entries.{methodAllowed, pointsFinite}
 use Rattle.parameters.specs.Parameters.{idOf, unitsAllowed, levelAllowed}
 use Rattle.sensors.specs.Sensors.{unitsValid, levelValid, sentinelsFinite, validSetup, validSensor}
-use Rattle.sensors.specs.Changes.{setup, restarted, calibratedAt, withNext, withMethod, withTrial, withPoints, withLevel, withParameter, sample, measuredOf}
+use Rattle.sensors.specs.Changes.{setup, restarted, calibratedAt, withNext, withMethod, withTrial, withPoints, withLevel, withParameter, sample, measuredOf, measuredSensor}
 use Rattle.sensors.specs.declared.Parameter.{Parameter}
 use Rattle.sensors.specs.declared.Setup.{Setup}
 use Rattle.sensors.specs.declared.Sensor.{Sensor}
@@ -174,8 +174,8 @@ apart g x k p h = go (eqb k 1) (eqb k 2)
 -- a measurement of finite raws, of those that it reads, keeps a sensor valid
 pub measured-valid : (s : ℕ) (x : Sensor) (present : Bool) (first second : Float) → validSensor s x ≡ true
     → (present ≡ true → finite first ≡ true) → (present ≡ true → s ≡ 1 → finite second ≡ true)
-    → validSensor s (record { setup = x .setup; sample = measuredOf (x .sample) s present first second }) ≡ true
-unfolding validSensor measuredOf
+    → validSensor s (measuredSensor x s present first second) ≡ true
+unfolding validSensor measuredSensor measuredOf
 measured-valid s x present first second h a b = go present a b (eqb s 1) refl
   where
     go : (p : Bool) → (p ≡ true → finite first ≡ true) → (p ≡ true → s ≡ 1 → finite second ≡ true) → (q : Bool) → eqb s 1 ≡ q

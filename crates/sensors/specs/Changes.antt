@@ -13,6 +13,7 @@ use Rattle.methods.specs.declared.Points.{Points}
 use Rattle.sensors.specs.declared.Parameter.{Parameter}
 use Rattle.sensors.specs.declared.Setup.{Setup}
 use Rattle.sensors.specs.declared.Sample.{Sample}
+use Rattle.sensors.specs.declared.Sensor.{Sensor}
 
 -- a setup, field by field
 abbrev pub setup : Bool → Calibration → Coefficients → ℕ → Points → ℕ → ℕ → Parameter → Parameter → Parameter → Setup
@@ -69,3 +70,14 @@ sample present first second = record { present = present; first = first; second 
 unfoldable pub measuredOf : Sample → ℕ → Bool → Float → Float → Sample
 measuredOf x sensor present first second =
     cond present (cond (eqb sensor 1) (sample present first second) (sample present first (x .second))) (sample present (x .first) (x .second))
+
+abbrev pub sensorOf : Setup → Sample → Sensor
+sensorOf s x = record { setup = s; sample = x }
+
+-- "Methods with self and mut self on sonde and sensor, handing the state back": a measurement keeps the setup
+unfoldable pub measuredSensor : Sensor → ℕ → Bool → Float → Float → Sensor
+measuredSensor x sensor present first second = sensorOf (x .setup) (measuredOf (x .sample) sensor present first second)
+
+-- and a new setup keeps the sample
+unfoldable pub sensorWithSetup : Sensor → Setup → Sensor
+sensorWithSetup x s = sensorOf s (x .sample)

@@ -1,6 +1,6 @@
 // The state of one sensor: what frames write and a calibration decides, and what measurements write.
 ghost use mathlib.Core.Path.{_≡_};
-ghost use Rattle.sensors.specs.Changes.{restarted, calibratedAt, withNext, withMethod, withTrial, withPoints, withLevel, withParameter, measuredOf};
+ghost use Rattle.sensors.specs.Changes.{restarted, calibratedAt, withNext, withMethod, withTrial, withPoints, withLevel, withParameter, measuredOf, measuredSensor, sensorWithSetup};
 ghost use Rattle.sensors.specs.Sensors.{parameterOf, freshParameter, freshSetup, freshSample, freshSensor, unitsValid, levelValid, sentinelsFinite, validSetup, validSensor};
 use coefficients::Calibration;
 use coefficients::Coefficients;
@@ -250,6 +250,24 @@ impl Sensor {
         let setup = self.setup;
         let sample = self.sample;
         setup.is_valid(sensor) & floats::is_finite(sample.first) & floats::is_finite(sample.second)
+    }
+
+    // A measurement; the setup stays.
+    pub fn measure(mut self, sensor: u16, present: bool, first: f32, second: f32) -> Self
+        ensures { λ r. ⌜ r ≡ measuredSensor self sensor present first second ⌝ }
+    {
+        let before = self.sample;
+        let sample = before.measure(sensor, present, first, second);
+        self.sample = sample;
+        self
+    }
+
+    // A new setup; the sample stays.
+    pub fn with_setup(mut self, setup: Setup) -> Self
+        ensures { λ r. ⌜ r ≡ sensorWithSetup self setup ⌝ }
+    {
+        self.setup = setup;
+        self
     }
 }
 

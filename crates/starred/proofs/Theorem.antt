@@ -18,7 +18,7 @@ use Rattle.journal.specs.Replay.{replayOf, replays}
 use Rattle.parameters.specs.Parameters.{idOf, defaultUnits, unitsAllowed, levelAllowed}
 use Rattle.fields.specs.Fields.{ownerBit, owns, holds, exactly, fieldAt, whole as wholeField}
 use Rattle.sensors.specs.Sensors.{freshParameter, freshSetup, freshSensor, unitsValid, levelValid, sentinelsFinite, validSetup, validSensor}
-use Rattle.sensors.specs.Changes.{restarted, calibratedAt}
+use Rattle.sensors.specs.Changes.{restarted, calibratedAt, sensorWithSetup}
 use Rattle.registers.specs.Registers.{modeOf, headRegister, sensorRegister}
 use Rattle.writes.specs.Writes.{updated, commanded, fieldWritten, writeOf}
 use Rattle.plans.specs.Plans.{targetOf, planOf}
@@ -36,7 +36,7 @@ unfolding crcBit crcBits crcByte crcFrom crcOf checksumOf framed bodyOf isGood o
     methodAllowed pointsFinite samePoints validEntry replacedBy capacityOf entryWords numberAt floatAt entryAt validOpening header beginWords appendOf
     validHeader openingAt validOpenings validEntryAt chainOf validLink validChain validChains validEntries valid replayOf replays
     idOf defaultUnits unitsAllowed levelAllowed ownerBit owns holds exactly fieldAt wholeField
-    freshParameter freshSetup freshSensor unitsValid levelValid sentinelsFinite validSetup validSensor restarted calibratedAt
+    freshParameter freshSetup freshSensor unitsValid levelValid sentinelsFinite validSetup validSensor restarted calibratedAt sensorWithSetup
     modeOf headRegister sensorRegister updated commanded fieldWritten writeOf targetOf planOf
     up freshCounters goodCounted exceptionCounted freshSonde sensorAt setupAt withSensor withSetup countedGood countedException addressValid validSonde
     openings sameCalibrations journalAgrees agrees beginOf sent refusal writtenReply confirmation spareIn writeAt maskedWord judged frameOf

@@ -7,7 +7,7 @@ use lib.Dec.{leb, ltb}
 use lib.Ieee.{Float, nan}
 use lib.ListN.{getD, set}
 use Rattle.sensors.specs.Sensors.{freshSensor, validSensor}
-use Rattle.sensors.specs.Changes.{measuredOf}
+use Rattle.sensors.specs.Changes.{measuredSensor, sensorWithSetup}
 use Rattle.sensors.specs.declared.Setup.{Setup}
 use Rattle.sensors.specs.declared.Sensor.{Sensor}
 use Rattle.state.specs.declared.Counters.{Counters}
@@ -74,12 +74,11 @@ unfoldable pub withSensor : Sonde → ℕ → Sensor → Sonde
 withSensor d s x = sonde (d .address) (set (d .sensors) (s - 1) x) (d .counters)
 
 unfoldable pub withSetup : Sonde → ℕ → Setup → Sonde
-withSetup d s x = withSensor d s (record { setup = x; sample = sensorAt d s .sample })
+withSetup d s x = withSensor d s (sensorWithSetup (sensorAt d s) x)
 
 -- "Measure stores the raws that it reads"
 unfoldable pub measuredAt : Sonde → ℕ → Bool → Float → Float → Sonde
-measuredAt d s present first second =
-    withSensor d s (record { setup = setupAt d s; sample = measuredOf (sensorAt d s .sample) s present first second })
+measuredAt d s present first second = withSensor d s (measuredSensor (sensorAt d s) s present first second)
 
 unfoldable pub withCounters : Sonde → Counters → Sonde
 withCounters d c = sonde (d .address) (d .sensors) c

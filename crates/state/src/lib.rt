@@ -117,9 +117,9 @@ impl Sonde {
         ensures { λ r. ⌜ r ≡ withSetup self sensor setup ⌝ }
     {
         let i = (sensor as usize) - 1;
-        let mut x = self.sensors[i];
-        x.setup = setup;
-        self.sensors[i] = x;
+        let before = self.sensors[i];
+        let after = before.with_setup(setup);
+        self.sensors[i] = after;
         self
     }
 
@@ -136,11 +136,9 @@ impl Sonde {
         ensures { λ r. ⌜ r ≡ measuredAt self sensor present first second ⌝ }
     {
         let i = (sensor as usize) - 1;
-        let mut x = self.sensors[i];
-        let before = x.sample;
-        let sample = before.measure(sensor, present, first, second);
-        x.sample = sample;
-        self.sensors[i] = x;
+        let before = self.sensors[i];
+        let after = before.measure(sensor, present, first, second);
+        self.sensors[i] = after;
         self
     }
 

@@ -1,17 +1,13 @@
-// The library compared with two others: the checksums of published frames with those of a table, and its answers to dialogues with those of
-// tests/dialogues/reference.py. What the program prints is held to its file stdout.
-mod dialogues; // lines of calls and answers
-mod scene; // the sonde of a dialogue
+// The library's CRC-16 compared with that of a table: the checksums of published frames, of every byte, and of messages of every length.
+// What the program prints is held to its file stdout.
 mod table; // CRC-16 by a table
-mod tally; // comparisons, counted
-mod text; // lines, and the bytes that they spell
 
 ghost use mathlib.Core.Path.{_≡_};
-ghost use Prim.Native.Nat.{_≤_};
 ghost use lib.ListN.{length};
-use crate::tally::Tally;
 use libc::STDIN_FILENO;
 use libc::STDOUT_FILENO;
+use text::tally;
+use text::tally::Tally;
 
 // The checksum that a frame carries, its last two bytes, low byte first; 0 where it has no two.
 fn sent(frame: &[u8]) -> u16 {
@@ -47,9 +43,7 @@ fn compare_frame(line: &[u8]) -> bool {
 }
 
 // Every frame of the input.
-fn compare_frames(input: &[u8]) -> Tally
-    requires { ⌜ length (now input) ≤ 131072 ⌝ }
-{
+fn compare_frames(input: &[u8]) -> Tally {
     let mut tally = Tally::none();
     let mut at = 0;
     while at < input.len() {
@@ -99,27 +93,15 @@ fn sweep_lengths() -> Tally {
     tally
 }
 
-// Published frames, up to a line that begins with `-`, and dialogues after it.
-fn compare(input: &[u8])
-    requires { ⌜ length (now input) ≤ 131072 ⌝ }
-{
-    let mark = text::part_end(input, 0, b'-');
-    let frames = compare_frames(&input[..mark]);
-    sweep_bytes().print(b" messages of one byte, every byte, ");
-    sweep_lengths().print(b" messages of one pattern, every length from 0 to 256, ");
-    frames.print(b" frames, ");
-    dialogues::play_all(&input[mark..]).print(b" dialogues, ");
-}
-
 fn main() {
     let mut space = [0u8; 131072];
     let n = io::read_full(STDIN_FILENO, &mut space);
     if n == 131072 {
-        io::write_all(
-            STDOUT_FILENO,
-            b"the input fills its buffer and may be cut off\n",
-        );
+        text::print_cut_off();
         return;
     }
-    compare(&space[..n]);
+    let frames = compare_frames(&space[..n]);
+    sweep_bytes().print(b" messages of one byte, every byte, ");
+    sweep_lengths().print(b" messages of one pattern, every length from 0 to 256, ");
+    frames.print(b" frames, ");
 }

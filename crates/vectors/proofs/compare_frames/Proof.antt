@@ -1,6 +1,4 @@
--- `vectors::compare_frames` is safe and ends: a line begins at most one past the end, and no more frames were counted than characters passed. Assumes nothing.
-use native.Mathlib.Omega.{arith}
-use mathlib.Core.Logic.{⊎-elim}
+-- `vectors::compare_frames` is safe and ends: a line begins at most one past the end. Assumes nothing.
 use borrow.Author.Needs.{needs}
 use Prim.Native.Nat.{_≤_, _+_, _-_}
 use lib.ListN.{length}
@@ -8,13 +6,10 @@ use Rattle.vectors.proofs.compare_frames.Statement.{statement}
 use Rattle.vectors.proofs.compare_frames.Tie as tie
 
 abbrev Inv-loop : tie.InvT-loop
-Inv-loop input tally₀ at₀ tally at = (at ≤ length input + 1) × (tally .compared ≤ at) × (tally .differ ≤ tally .compared)
+Inv-loop input tally₀ at₀ tally at = at ≤ length input + 1
 
 abbrev μ-loop : tie.MeasureT-loop
 μ-loop input tally₀ at₀ tally at = length input + 1 - at
-
-loop-again : tie.Need-loop-again Inv-loop μ-loop
-loop-again c = ⊎-elim (λ w. simp (w .3) (omega arith)) (λ w. simp (w .1) (omega arith)) (c .if1 .came)
 
 pub compare-frames-spec : {M : Type 1} → statement M
 compare-frames-spec =
@@ -33,5 +28,5 @@ compare-frames-spec =
     (λ c κs. search needs)
     (λ c. search needs)
     (λ c. search needs)
-    loop-again
+    (λ c. search needs)
     (λ c. search needs))

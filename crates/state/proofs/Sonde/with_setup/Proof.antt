@@ -1,5 +1,4 @@
 -- `state::Sonde::with_setup` meets its contract. Assumes nothing.
-use mathlib.Core.Path.{refl}
 use Rattle.state.specs.Sonde.{sensorAt, withSensor, withSetup}
 use borrow.Author.Needs.{needs}
 use Rattle.state.proofs.Sonde.with_setup.Statement.{statement}
@@ -7,8 +6,8 @@ use Rattle.state.proofs.Sonde.with_setup.Tie as tie
 
 returns : tie.Need-returns
 unfolding withSetup withSensor sensorAt
-returns c = refl
+returns c = simp (← c .with-setup .ensures)
 
 pub with-setup-spec : {M : Type 1} → statement M
 with-setup-spec =
-    tie.close (tie.spec (λ c. search needs) (λ c. search needs) (λ c. search needs) (λ c. search needs) (λ c. search needs) returns)
+    tie.close (tie.spec (λ c. search needs) (λ c. search needs) (λ c. search needs) (λ c κs. search needs) (λ c. search needs) (λ c. search needs) returns)

@@ -1,0 +1,13 @@
+-- `dialogues::scene::lent` meets its contract: what it gives counts words at the start of the volume. Assumes nothing.
+use native.Mathlib.Omega.{arith}
+use mathlib.Core.Path.{sym}
+use lib.Seq.{length-take-le}
+use borrow.Author.Needs.{needs}
+use Rattle.dialogues.proofs.scene.lent.Statement.{statement}
+use Rattle.dialogues.proofs.scene.lent.Tie as tie
+
+returns : tie.Need-returns
+returns c = (omega arith, sym (length-take-le _ _ (omega arith)))
+
+pub lent-spec : {M : Type 1} → statement M
+lent-spec = tie.close (tie.spec returns (λ c. search needs))

@@ -1,0 +1,23 @@
+-- `dialogues::scene::raw` is safe: the bits of infinity are no NaN's. Assumes nothing.
+use lib.Ieee.{nanBits}
+use borrow.Author.Needs.{needs}
+use Rattle.dialogues.proofs.scene.raw.Statement.{statement}
+use Rattle.dialogues.proofs.scene.raw.Tie as tie
+
+float-from-bits-result : tie.Need-float-from-bits-result
+unfolding nanBits
+float-from-bits-result c = tt
+
+pub raw-spec : {M : Type 1} → statement M
+raw-spec =
+    tie.close
+    (tie.spec
+    (λ c κs. search needs)
+    (λ c. search needs)
+    (λ c κs. search needs)
+    (λ c κs. search needs)
+    (λ c. search needs)
+    (λ c. search needs)
+    float-from-bits-result
+    (λ c. search needs)
+    (λ c. search needs))

@@ -1,0 +1,157 @@
+// A sonde in a dialogue, and the calls that the dialogue's lines make on it.
+ghost use Prim.Native.Nat.{_≤_};
+ghost use Rattle.io.specs.Counts.{Counts};
+use calls::SondeMade;
+use floats::FloatOf;
+use rtu::bytes;
+use state::Sonde;
+use text::character;
+
+// The sonde, the clock of its frames, how many words its volume has, and what the last call gave: its number, and the length of a
+// frame's reply or the entries in use of an audit.
+pub struct Scene {
+    pub sonde: Sonde,
+    pub clock: u32,
+    pub words: usize,
+    pub number: u8,
+    pub count: u16,
+}
+
+// The word that begins at a byte; bytes that aren't there are 0.
+fn word(spelled: &[u8], at: usize) -> u16
+    requires { ⌜ at ≤ 8 ⌝ }
+{
+    bytes::word(character(spelled, at), character(spelled, at + 1))
+}
+
+// How many words at the start of the volume are lent where n are to be: none if it has fewer.
+fn lent(volume: &[u16], n: usize) -> usize
+    ensures { λ r. ⌜ Counts r (now (volume .entry)) ⌝ }
+{
+    if n <= volume.len() {
+        return n;
+    }
+    0
+}
+
+// The raw that begins at a byte; an infinity stands for whatever isn't finite.
+fn raw(spelled: &[u8], at: usize) -> f32
+    requires { ⌜ at ≤ 6 ⌝ }
+{
+    match floats::float_of(word(spelled, at), word(spelled, at + 2)) {
+        FloatOf::Finite(x) => x,
+        FloatOf::NotFinite => f32::from_bits(0x7F80_0000),
+    }
+}
+
+impl Scene {
+    pub fn start() -> Scene {
+        Scene {
+            sonde: Sonde::fresh(1),
+            clock: 0,
+            words: 0,
+            number: 0,
+            count: 0,
+        }
+    }
+
+    // What a call gave that left the sonde as it was.
+    fn gave(mut self, number: u8, count: u16) -> Scene {
+        self.number = number;
+        self.count = count;
+        self
+    }
+
+    // The sonde that a call made; where it was refused, the sonde before it goes on.
+    fn made(mut self, made: SondeMade) -> Scene {
+        if made.number != 0 {
+            return self.gave(made.number, 0);
+        }
+        let sonde = made.sonde;
+        self.sonde = sonde;
+        self.gave(0, 0)
+    }
+
+    fn set_clock(mut self, spelled: &[u8]) -> Scene {
+        self.clock = (word(spelled, 0) as u32) * 65536 + (word(spelled, 2) as u32);
+        self
+    }
+
+    fn begin(mut self, spelled: &[u8], volume: &mut [u16]) -> Scene {
+        let n = lent(volume, word(spelled, 0) as usize);
+        let number = calls::begin(self.sonde, &mut volume[..n]);
+        if number == 0 {
+            self.words = n;
+        }
+        self.gave(number, 0)
+    }
+
+    fn power_up(self, spelled: &[u8], volume: &[u16]) -> Scene {
+        let n = lent(volume, self.words);
+        self.made(calls::power_up(character(spelled, 0), &volume[..n]))
+    }
+
+    fn measure(self, spelled: &[u8]) -> Scene {
+        let present = character(spelled, 1) != 0;
+        self.made(calls::measure(
+            self.sonde,
+            character(spelled, 0),
+            present,
+            raw(spelled, 2),
+            raw(spelled, 6),
+        ))
+    }
+
+    fn audit(self, volume: &[u16]) -> Scene {
+        let n = lent(volume, self.words);
+        let a = calls::audit(self.sonde, &volume[..n]);
+        self.gave(a.number, a.entries)
+    }
+
+    fn frame(mut self, sent: &[u8], reply: &mut [u8], volume: &mut [u16]) -> Scene {
+        let n = lent(volume, self.words);
+        let f = frames::frame(self.sonde, sent, reply, &mut volume[..n], self.clock);
+        let sonde = f.sonde;
+        self.sonde = sonde;
+        self.gave(f.number, f.length)
+    }
+
+    // The call of a line, by its first character, on the bytes that the line spells. A line of another form is number 255, which no
+    // call gives.
+    pub fn call(self, name: u8, spelled: &[u8], reply: &mut [u8], volume: &mut [u16]) -> Scene {
+        match name {
+            b'c' => self.set_clock(spelled),
+            b'f' => self.made(calls::fresh(character(spelled, 0))),
+            b'b' => self.begin(spelled, volume),
+            b'p' => self.power_up(spelled, volume),
+            b'm' => self.measure(spelled),
+            b'a' => self.audit(volume),
+            b'>' => self.frame(spelled, reply, volume),
+            _ => self.gave(255, 0),
+        }
+    }
+
+    // Whether the last call gave what a line says: `<` the reply's bytes, `=` the number, with the entries in use for an audit.
+    pub fn agrees(self, name: u8, spelled: &[u8], reply: &[u8]) -> bool {
+        if name == b'<' {
+            return (self.number == 0) & is_same(reply, self.count as usize, spelled);
+        }
+        (self.number == character(spelled, 0)) & (self.count == word(spelled, 1))
+    }
+}
+
+// Whether a slice begins with `count` bytes that are all of another.
+fn is_same(slice: &[u8], count: usize, other: &[u8]) -> bool {
+    if count != other.len() {
+        return false;
+    }
+    if slice.len() < count {
+        return false;
+    }
+    for i in 0..count {
+        if slice[i] != other[i] {
+            return false;
+        }
+    }
+    true
+}

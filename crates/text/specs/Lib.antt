@@ -1,0 +1,4 @@
+-- The definitions that the contracts of `text` cite. Assumes nothing.
+pub mod Text
+pub mod Hex
+pub mod Tally

@@ -1,2 +1,0 @@
--- What the proofs of `vectors` share. Assumes nothing.
-pub mod Ranges
