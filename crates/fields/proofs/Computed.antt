@@ -10,8 +10,8 @@ use lib.Dec.{eqb}
 use borrow.Author.Tests.{eqb-true, eqb-false}
 use Rattle.floats.proofs.Bools.{both}
 use Rattle.fields.specs.declared.Field.{Field}
-use Rattle.fields.specs.declared.Found.{Found}
-use Rattle.fields.specs.declared.Found.the-variants.{Row, Absent}
+use Rattle.fields.specs.Fields.{Found}
+use Rattle.fields.specs.Fields.Found.{Row, Absent}
 use Rattle.fields.specs.Fields.{firstOf, found}
 
 -- the second part of a test whose first part fails

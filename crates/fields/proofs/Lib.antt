@@ -2,4 +2,5 @@ pub mod Computed
 pub mod Registers
 pub mod Runs
 pub mod Search
+pub mod Spans
 pub mod Writable

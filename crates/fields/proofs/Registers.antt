@@ -10,8 +10,8 @@ use lib.Dec.{eqb, leb, ltb}
 use borrow.Author.Tests.{eqb-true, eq-eqb, ne-eqb, leb-true, ltb-true, ltb-false, le-ltb}
 use Rattle.floats.proofs.Bools.{both, beq-true}
 use Rattle.fields.specs.declared.Field.{Field}
-use Rattle.fields.specs.declared.Found.{Found}
-use Rattle.fields.specs.declared.Found.the-variants.{Row, Absent}
+use Rattle.fields.specs.Fields.{Found}
+use Rattle.fields.specs.Fields.Found.{Row, Absent}
 use Rattle.fields.specs.Fields.{field, fields, ownerBit, owns, holds, exactly, firstOf, fieldAt, found, whole}
 use Rattle.fields.specs.Map.{inMap}
 use Rattle.fields.proofs.Computed.{given, every, below, at-number, absent, same, first-passes, also-found, none-found}

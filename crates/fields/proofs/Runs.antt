@@ -10,7 +10,7 @@ use lib.ListN.{take, drop}
 use borrow.Author.Tests.{eqb-true, leb-true, ltb-true, ltb-false, le-leb, lt-leb, le-ltb}
 use Rattle.floats.proofs.Bools.{both}
 use Rattle.fields.specs.declared.Field.{Field}
-use Rattle.fields.specs.declared.Found.the-variants.{Row, Absent}
+use Rattle.fields.specs.Fields.Found.{Row, Absent}
 use Rattle.fields.specs.Fields.{fields, ownerBit, owns, holds, fieldAt, found, allFound, whole}
 use Rattle.fields.proofs.Computed.{every, below, at-number}
 use Rattle.fields.proofs.Registers.{Shape, shaped, shape, every-shaped, unheld, past, held-parts, found-inside, whole-registers}
@@ -100,9 +100,9 @@ skip (suc k) (f ∷ fs) owner at e =
     rw (le-ltb at (f .offset + f .words) l, and-false) (skip k fs owner at (p .1))
 
 -- the pass may begin there
-pub begins : (r : ℕ) → run r ≡ reached (drop (r % 100 / 2) fields) (r / 100) (r % 100)
+pub run-begins : (r : ℕ) → run r ≡ reached (drop (r % 100 / 2) fields) (r / 100) (r % 100)
 unfolding run
-begins r = skip (r % 100 / 2) fields (r / 100) (r % 100) (half-before r)
+run-begins r = skip (r % 100 / 2) fields (r / 100) (r % 100) (half-before r)
 
 -- ---- registers that all exist
 

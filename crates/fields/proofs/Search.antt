@@ -13,7 +13,7 @@ use borrow.Author.Tests.{ltb-true, ne-eqb, not-true}
 use Rattle.floats.proofs.Bools.{both}
 use Rattle.fields.specs.declared.Field.{Field}
 use Rattle.fields.specs.Fields.{field, fields, owns, exactly, firstOf, whole}
-use Rattle.fields.specs.declared.Found.the-variants.{Row, Absent}
+use Rattle.fields.specs.Fields.Found.{Row, Absent}
 use Rattle.fields.proofs.Computed.{every}
 use Rattle.fields.proofs.Registers.{Shape, shaped, shape, every-shaped}
 use Rattle.fields.proofs.Runs.{reach, reached, before, half-before}
@@ -66,8 +66,8 @@ elsewhere owner o count (f ∷ fs) e =
     rw (ne-eqb (f .offset) o (λ q. omega arith), and-false) (elsewhere owner o count fs (p .1))
 
 -- the search for a whole field may begin at row offset / 2
-pub begins : (start count : ℕ) → whole start count ≡ firstOf (λ f. exactly f (start / 100) (start % 100) count) (drop (start % 100 / 2) fields)
+pub whole-begins : (start count : ℕ) → whole start count ≡ firstOf (λ f. exactly f (start / 100) (start % 100) count) (drop (start % 100 / 2) fields)
 unfolding whole
-begins start count =
+whole-begins start count =
     skip (λ f. exactly f (start / 100) (start % 100) count) (start % 100 / 2) fields
     (elsewhere (start / 100) (start % 100) count (take (start % 100 / 2) fields) (half-before start))

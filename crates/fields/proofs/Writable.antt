@@ -6,7 +6,7 @@ use native.Mathlib.Omega.{arith}
 use lib.Dec.{eqb, leb}
 use borrow.Author.Tests.{eq-eqb, ne-eqb, not-true}
 use Rattle.fields.specs.declared.Field.{Field}
-use Rattle.fields.specs.declared.Found.the-variants.{Row}
+use Rattle.fields.specs.Fields.Found.{Row}
 use Rattle.fields.specs.Fields.{fields, ownerBit, owns, fieldAt}
 use Rattle.fields.proofs.Computed.{other, given, every}
 use Rattle.fields.proofs.Registers.{owner-below, found-test, found-covered}

@@ -6,8 +6,8 @@ use Prim.Native.Nat.{ℕ, zero, suc, _+_, _/_, _%_}
 use lib.Bits.{bitAnd}
 use lib.Dec.{eqb, leb, ltb}
 use Rattle.fields.specs.declared.Field.{Field}
-use Rattle.fields.specs.declared.Found.{Found}
-use Rattle.fields.specs.declared.Found.the-variants.{Row, Absent}
+use Rattle.fields.specs.declared.Span.{Span}
+use Rattle.fields.specs.declared.Span.the-variants.{Whole, Mismatch, Gap}
 
 -- offset, words, access ("W is writable, M writable in mode only, the rest read-only": 1, 2, 0) and owners (bit 0 the device, bit s sensor s):
 -- 1 is the device, 30 all sensors, 22 sensors 1, 2 and 4, 10 sensors 1 and 3, 8 sensor 3, 2 sensor 1
@@ -75,6 +75,11 @@ holds f owner offset = owns f owner && leb (f .offset) offset && ltb offset (f .
 unfoldable pub exactly : Field → ℕ → ℕ → ℕ → Bool
 exactly f owner offset count = owns f owner && eqb (f .offset) offset && eqb (f .words) count
 
+-- what a search of the table finds
+pub data Found : Type 0 where
+  Row : Field → Found
+  Absent : Found
+
 -- the first row that passes a test
 abbrev pub firstOf : (Field → Bool) → List Field → Found
 firstOf t [] = Absent
@@ -96,3 +101,19 @@ allFound r (suc n) = found (fieldAt r) && allFound (suc r) n
 -- "exactly one whole field"
 unfoldable pub whole : ℕ → ℕ → Found
 whole start count = firstOf (λ f. exactly f (start / 100) (start % 100) count) fields
+
+-- ---- registers that adjoin
+
+abbrev pub spanIn : Found → Span
+spanIn (Row f) = Whole f
+spanIn Absent = Mismatch
+
+-- what count registers from start on are: with one absent among them, one whole field, or neither
+unfoldable pub spanOf : ℕ → ℕ → Span
+spanOf start count = cond (allFound start count) (spanIn (whole start count)) Gap
+
+-- document 01's code for each: "2: a register named is absent, or past 0xFFFF", "0x80: a write isn't exactly one whole field"; 0 is no refusal
+abbrev pub codeOf : Span → ℕ
+codeOf Gap = 2
+codeOf Mismatch = 0x80
+codeOf (Whole f) = 0

@@ -1,4 +1,4 @@
-// The map of registers: what a row of the table of fields is, and what a search of it finds. No function stands here; `lookup` has the
+// The map of registers: what a row of the table of fields is, and what registers that adjoin are. No function stands here; `lookup` has the
 // table and searches it.
 
 // Access: document 01's W is `WRITABLE`, its M `MODAL`, writable in mode only.
@@ -16,7 +16,12 @@ pub struct Field {
     pub owners: u8,
 }
 
-pub enum Found {
-    Row(Field),
-    Absent,
+// What registers that adjoin are.
+pub enum Span {
+    // Exactly one whole field.
+    Whole(Field),
+    // All of them exist, and they aren't one whole field.
+    Mismatch,
+    // One of them is absent.
+    Gap,
 }

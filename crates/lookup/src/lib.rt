@@ -1,7 +1,7 @@
-// The search of the table of fields: whether registers exist, and which field they are.
+// The search of the table of fields: what registers that adjoin are.
 ghost use mathlib.Core.Path.{_≡_};
 ghost use Prim.Native.Nat.{_+_, _≤_};
-ghost use Rattle.fields.specs.Fields.{ownerBit, allFound, whole};
+ghost use Rattle.fields.specs.Fields.{ownerBit, spanOf, codeOf};
 ghost use Rattle.lookup.specs.Reach.{reachBy};
 
 pub mod rows; // the table
@@ -9,7 +9,8 @@ pub mod rows; // the table
 use crate::rows::FIELDS;
 use crate::rows::ROWS;
 use fields::Field;
-use fields::Found;
+use fields::Span;
+use refusals::codes;
 
 // The bit of an owner: 0 is the device, 1 to 4 are the sensors.
 fn owner_bit(owner: u16) -> u8
@@ -37,41 +38,41 @@ fn reach(f: Field, bit: u8, at: u16) -> u16
     at
 }
 
-// Whether `count` registers from `start` on all exist, in one pass over the rows; none past 0xFFFF does. No row has more than two words, so
-// none before row offset / 2 holds the first.
-pub fn all_exist(start: u16, count: u16) -> bool
-    ensures { λ r. ⌜ r ≡ allFound start count ⌝ }
+// What `count` registers from `start` on are, in one pass over the rows; none past 0xFFFF exists. No row has more than two words, so none
+// before row offset / 2 holds the first register.
+pub fn span(start: u16, count: u16) -> Span
+    ensures { λ r. ⌜ r ≡ spanOf start count ⌝ }
 {
     let bit = owner_bit(start / 100);
+    if (bit == 0) & (0 < count) {
+        return Span::Gap;
+    }
     let offset = start % 100;
     let end = (offset as u32) + (count as u32);
     let table = FIELDS;
     let mut at = offset;
     let mut i = (offset / 2) as usize;
     while i < ROWS {
-        if end <= (at as u32) {
-            return true;
-        }
-        at = reach(table[i], bit, at);
-        i += 1;
-    }
-    end <= (at as u32)
-}
-
-// The field that is exactly these registers, if there is one.
-pub fn whole_field(start: u16, count: u16) -> Found
-    ensures { λ r. ⌜ r ≡ whole start count ⌝ }
-{
-    let bit = owner_bit(start / 100);
-    let offset = start % 100;
-    let table = FIELDS;
-    let mut i = (offset / 2) as usize;
-    while i < ROWS {
         let f = table[i];
         if (f.owners & bit != 0) & (f.offset == offset) & (f.words == count) {
-            return Found::Row(f);
+            return Span::Whole(f);
         }
+        at = reach(f, bit, at);
         i += 1;
     }
-    Found::Absent
+    if end <= (at as u32) {
+        return Span::Mismatch;
+    }
+    Span::Gap
+}
+
+// 0, or the code that refuses the registers.
+pub fn code_of(s: Span) -> u8
+    ensures { λ r. ⌜ r ≡ codeOf s ⌝ }
+{
+    match s {
+        Span::Gap => codes::ILLEGAL_DATA_ADDRESS,
+        Span::Mismatch => codes::FIELD_MISMATCH,
+        Span::Whole(_) => 0,
+    }
 }

@@ -12,8 +12,8 @@ use Rattle.modbus.specs.declared.Request.the-variants.{Unsupported, Malformed, 
 use Rattle.modbus.proofs.Requests.{InRange, in-range}
 use Rattle.fields.specs.Fields.{fieldAt, allFound, whole}
 use Rattle.fields.specs.declared.Field.{Field}
-use Rattle.fields.specs.declared.Found.{Found}
-use Rattle.fields.specs.declared.Found.the-variants.{Row, Absent}
+use Rattle.fields.specs.Fields.{Found}
+use Rattle.fields.specs.Fields.Found.{Row, Absent}
 use Rattle.fields.proofs.Registers.{whole-row}
 use Rattle.fields.proofs.Runs.{all-found-ends, all-found-block}
 use Rattle.fields.proofs.Writable.{written-sensor}

@@ -9,8 +9,8 @@ use Rattle.modbus.specs.Request.{addressOf, functionOf, requestOf, codeOf}
 use Rattle.modbus.specs.declared.Request.{Request}
 use Rattle.modbus.specs.declared.Request.the-variants.{Unsupported, Malformed, Read, Write, Mask}
 use Rattle.fields.specs.Fields.{allFound, whole}
-use Rattle.fields.specs.declared.Found.{Found}
-use Rattle.fields.specs.declared.Found.the-variants.{Row, Absent}
+use Rattle.fields.specs.Fields.{Found}
+use Rattle.fields.specs.Fields.Found.{Row, Absent}
 use Rattle.plans.specs.declared.Target.{Target}
 use Rattle.plans.specs.declared.Target.the-variants.{Unfit, Writable}
 use Rattle.plans.specs.declared.Plan.{Plan}

@@ -12,7 +12,7 @@ use Rattle.floats.specs.declared.FloatOf.the-variants.{Finite}
 use Rattle.floats.proofs.Bools.{no}
 use Rattle.floats.proofs.Words.{float-and-back}
 use Rattle.fields.specs.declared.Field.{Field}
-use Rattle.fields.specs.declared.Found.the-variants.{Row}
+use Rattle.fields.specs.Fields.Found.{Row}
 use Rattle.fields.specs.Fields.{fieldAt}
 use Rattle.sensors.specs.Sensors.{parameterOf}
 use Rattle.sensors.specs.Changes.{withNext, withMethod, withTrial, withPoints, withLevel, withParameter}

@@ -7,7 +7,7 @@ use lib.Dec.{eqb, leb, ltb}
 use borrow.Author.Tests.{eqb-true, eq-eqb, ne-eqb, le-leb}
 use Rattle.floats.proofs.Bools.{beq-true}
 use Rattle.fields.specs.declared.Field.{Field}
-use Rattle.fields.specs.declared.Found.the-variants.{Row}
+use Rattle.fields.specs.Fields.Found.{Row}
 use Rattle.fields.specs.Fields.{fields, ownerBit, owns, fieldAt}
 use Rattle.fields.proofs.Computed.{other, given, every, below, at-number}
 use Rattle.fields.proofs.Registers.{owner-below, found-test, found-covered}

@@ -6,7 +6,7 @@ use native.Mathlib.Omega.{arith}
 use lib.Dec.{eqb}
 use Rattle.floats.specs.Floats.{pattern}
 use Rattle.fields.specs.declared.Field.{Field}
-use Rattle.fields.specs.declared.Found.the-variants.{Row}
+use Rattle.fields.specs.Fields.Found.{Row}
 use Rattle.fields.specs.Fields.{fieldAt}
 use Rattle.sensors.specs.declared.Setup.{Setup}
 use Rattle.sensors.specs.declared.Sample.{Sample}

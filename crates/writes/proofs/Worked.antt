@@ -11,8 +11,8 @@ use Rattle.methods.specs.Methods.{methodOf, candidateOf, verdictOf, judgedOf}
 use Rattle.entries.specs.Entries.{methodAllowed}
 use Rattle.parameters.specs.Parameters.{idOf, defaultUnits, unitsAllowed, levelAllowed}
 use Rattle.fields.specs.Fields.{ownerBit, owns, holds, fieldAt}
-use Rattle.fields.specs.declared.Found.{Found}
-use Rattle.fields.specs.declared.Found.the-variants.{Row, Absent}
+use Rattle.fields.specs.Fields.{Found}
+use Rattle.fields.specs.Fields.Found.{Row, Absent}
 use Rattle.sensors.specs.Sensors.{parameterOf, freshParameter, freshSetup}
 use Rattle.sensors.specs.Changes.{restarted, calibratedAt, withNext, withMethod, withTrial, withPoints, withLevel, withParameter}
 use Rattle.sensors.specs.declared.Setup.{Setup}
