@@ -1,5 +1,6 @@
 -- What is known of a plan: a read stays on the map, and a write goes to a sensor's writable field. Assumes nothing.
 use mathlib.Core.Path.{_≡_, refl, sym, subst}
+use mathlib.Core.Bool.{true}
 use mathlib.Core.List.{List}
 use Prim.Native.Nat.{ℕ, _+_, _/_, _%_, _≤_}
 use lib.Dec.{eqb}
@@ -10,14 +11,16 @@ use Rattle.modbus.specs.Request.{addressOf, functionOf, requestOf}
 use Rattle.modbus.specs.declared.Request.{Request}
 use Rattle.modbus.specs.declared.Request.the-variants.{Unsupported, Malformed, Read, Write, Mask}
 use Rattle.modbus.proofs.Requests.{InRange, in-range}
-use Rattle.fields.specs.Fields.{fieldAt, allFound, whole}
+use Rattle.fields.specs.Fields.{fieldAt, allFound, spanOf}
 use Rattle.fields.specs.declared.Field.{Field}
-use Rattle.fields.specs.Fields.{Found}
-use Rattle.fields.specs.Fields.Found.{Row, Absent}
+use Rattle.fields.specs.Fields.Found.{Row}
+use Rattle.fields.specs.declared.Span.{Span}
+use Rattle.fields.specs.declared.Span.the-variants.{Whole, Mismatch, Gap}
 use Rattle.fields.proofs.Registers.{whole-row}
 use Rattle.fields.proofs.Runs.{all-found-ends, all-found-block}
+use Rattle.fields.proofs.Spans.{Says, span-says}
 use Rattle.fields.proofs.Writable.{written-sensor}
-use Rattle.plans.specs.Plans.{targetIn, targetOf, readingOf, writingOf, maskingOf, requested, planOf}
+use Rattle.plans.specs.Plans.{targetIn, targetOf, readingIn, readingOf, writingOf, maskingOf, requested, planOf}
 use Rattle.plans.specs.declared.Target.{Target}
 use Rattle.plans.specs.declared.Target.the-variants.{Unfit, Writable}
 use Rattle.plans.specs.declared.Plan.{Plan}
@@ -58,12 +61,11 @@ Fit count (Unfit code) = Unit {0}
 Fit count (Writable s f) = Located count s f
 
 module _ (start count : ℕ) where
-  found-fit : (x : Found) → whole start count ≡ x → Fit count (targetIn (start / 100) x)
-  found-fit Absent e = tt
-  found-fit (Row f) e =
+  span-fit : (x : Span) → Says start count x → Fit count (targetIn (start / 100) x)
+  span-fit (Whole f) s =
       choose (Fit count) (eqb (f .access) 0) (Unfit 0xC2) (Writable (start / 100) f) (λ t. tt)
       (λ t.
-      let w = whole-row start count f e in
+      let w = whole-row start count f (s .1) in
       let n = eqb-false (f .access) 0 t in
       record {
         register = start;
@@ -74,20 +76,27 @@ module _ (start count : ℕ) where
         writable = n;
         is-sensor = written-sensor start f (w .field) n;
       })
+  span-fit Mismatch s = tt
+  span-fit Gap s = tt
 
   target-fit : Fit count (targetOf start count)
   unfolding targetOf
-  target-fit =
-      choose (Fit count) (allFound start count) (targetIn (start / 100) (whole start count)) (Unfit 2) (λ t. found-fit (whole start count) refl) (λ t. tt)
+  target-fit = span-fit (spanOf start count) (span-says start count)
 
 -- ---- the plan
 
 module _ (body : List ℕ) where
   read-facts : (start count : ℕ) → 1 ≤ count → count ≤ 125 → Facts body (readingOf start count)
   unfolding readingOf
-  read-facts start count h k =
-      choose (Facts body) (allFound start count) (Reading start count) (Refused 2) (λ e. record { least = h; most = k; ends = all-found-ends start count e h; block = all-found-block start count e })
-      (λ e. tt)
+  read-facts start count h k = go (spanOf start count) (span-says start count)
+    where
+      reads : allFound start count ≡ true → Reads start count
+      reads e = record { least = h; most = k; ends = all-found-ends start count e h; block = all-found-block start count e }
+
+      go : (x : Span) → Says start count x → Facts body (readingIn start count x)
+      go (Whole f) s = reads (s .0)
+      go Mismatch s = reads s
+      go Gap s = tt
 
   request-facts : (r : Request) → InRange body r → Facts body (requested r)
   request-facts Unsupported h = tt

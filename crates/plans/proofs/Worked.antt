@@ -1,6 +1,6 @@
 -- Writes judged on the map alone, worked out by computation. Assumes nothing.
 use mathlib.Core.Path.{_≡_, refl}
-use Rattle.fields.specs.Fields.{ownerBit, owns, holds, exactly, fieldAt, whole}
+use Rattle.fields.specs.Fields.{ownerBit, owns, holds, exactly, fieldAt, whole, spanOf}
 use Rattle.plans.specs.Plans.{targetOf}
 use Rattle.plans.specs.declared.Target.the-variants.{Unfit}
 
@@ -20,7 +20,7 @@ pub record Worked : Type 0 where
 
 -- by computation
 pub worked : Worked
-unfolding targetOf whole exactly fieldAt holds owns ownerBit
+unfolding targetOf spanOf whole exactly fieldAt holds owns ownerBit
 worked =
     record {
       number-read-only = refl;

@@ -8,25 +8,32 @@ use lib.Dec.{eqb}
 use Rattle.modbus.specs.Request.{addressOf, functionOf, requestOf, codeOf}
 use Rattle.modbus.specs.declared.Request.{Request}
 use Rattle.modbus.specs.declared.Request.the-variants.{Unsupported, Malformed, Read, Write, Mask}
-use Rattle.fields.specs.Fields.{allFound, whole}
-use Rattle.fields.specs.Fields.{Found}
-use Rattle.fields.specs.Fields.Found.{Row, Absent}
+use Rattle.fields.specs.Fields.{spanOf, codeOf as spanCode}
+use Rattle.fields.specs.declared.Span.{Span}
+use Rattle.fields.specs.declared.Span.the-variants.{Whole, Mismatch, Gap}
 use Rattle.plans.specs.declared.Target.{Target}
 use Rattle.plans.specs.declared.Target.the-variants.{Unfit, Writable}
 use Rattle.plans.specs.declared.Plan.{Plan}
 use Rattle.plans.specs.declared.Plan.the-variants.{Foreign, BroadcastRead, Refused, Reading, Writing, Masking}
 
--- "0x80: a write isn't exactly one whole field", then "0xC2: read-only"; the device's fields are all read-only, so what is left is a sensor's
-abbrev pub targetIn : ℕ → Found → Target
-targetIn sensor Absent = Unfit 0x80
-targetIn sensor (Row f) = cond (eqb (f .access) 0) (Unfit 0xC2) (Writable sensor f)
+-- "2: a register named is absent, or past 0xFFFF", then "0x80: a write isn't exactly one whole field", then "0xC2: read-only"; the device's
+-- fields are all read-only, so what is left is a sensor's
+abbrev pub targetIn : ℕ → Span → Target
+targetIn sensor (Whole f) = cond (eqb (f .access) 0) (Unfit 0xC2) (Writable sensor f)
+targetIn sensor Mismatch = Unfit (spanCode Mismatch)
+targetIn sensor Gap = Unfit (spanCode Gap)
 
--- "2: a register named is absent, or past 0xFFFF"
 unfoldable pub targetOf : ℕ → ℕ → Target
-targetOf start count = cond (allFound start count) (targetIn (start / 100) (whole start count)) (Unfit 2)
+targetOf start count = targetIn (start / 100) (spanOf start count)
+
+-- a read may begin or end inside a field; none of its registers may be absent
+abbrev pub readingIn : ℕ → ℕ → Span → Plan
+readingIn start count (Whole f) = Reading start count
+readingIn start count Mismatch = Reading start count
+readingIn start count Gap = Refused (spanCode Gap)
 
 unfoldable pub readingOf : ℕ → ℕ → Plan
-readingOf start count = cond (allFound start count) (Reading start count) (Refused 2)
+readingOf start count = readingIn start count (spanOf start count)
 
 abbrev pub writingOf : ℕ → ℕ → Target → Plan
 writingOf high low (Unfit code) = Refused code

@@ -3,8 +3,8 @@
 ghost use mathlib.Core.Path.{_≡_};
 ghost use Rattle.plans.specs.Plans.{targetOf, readingOf, writingOf, maskingOf, requested, planOf};
 use fields::Field;
-use fields::Found;
 use fields::READ_ONLY;
+use fields::Span;
 use modbus::Request;
 use refusals::codes;
 
@@ -40,13 +40,13 @@ pub enum Plan {
     },
 }
 
-// The field that is exactly these registers, if it can be written at all. A whole field's registers exist, so they are asked for only where there
-// is none.
+// The field that is exactly these registers, if it can be written at all.
 fn locate(start: u16, count: u16) -> Target
     ensures { λ r. ⌜ r ≡ targetOf start count ⌝ }
 {
-    match lookup::whole_field(start, count) {
-        Found::Row(field) => {
+    let span = lookup::span(start, count);
+    match span {
+        Span::Whole(field) => {
             if field.access == READ_ONLY {
                 return Target::Unfit(codes::READ_ONLY);
             }
@@ -55,22 +55,21 @@ fn locate(start: u16, count: u16) -> Target
                 field,
             }
         }
-        Found::Absent => {
-            if lookup::all_exist(start, count) {
-                return Target::Unfit(codes::FIELD_MISMATCH);
-            }
-            Target::Unfit(codes::ILLEGAL_DATA_ADDRESS)
-        }
+        Span::Mismatch => Target::Unfit(lookup::code_of(span)),
+        Span::Gap => Target::Unfit(lookup::code_of(span)),
     }
 }
 
+// A read may begin or end inside a field.
 fn plan_read(start: u16, count: u16) -> Plan
     ensures { λ r. ⌜ r ≡ readingOf start count ⌝ }
 {
-    if !lookup::all_exist(start, count) {
-        return Plan::Refused(codes::ILLEGAL_DATA_ADDRESS);
+    let span = lookup::span(start, count);
+    match span {
+        Span::Whole(_) => Plan::Reading { start, count },
+        Span::Mismatch => Plan::Reading { start, count },
+        Span::Gap => Plan::Refused(lookup::code_of(span)),
     }
-    Plan::Reading { start, count }
 }
 
 fn plan_write(start: u16, count: u16, high: u16, low: u16) -> Plan

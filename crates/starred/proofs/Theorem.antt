@@ -16,7 +16,7 @@ use Rattle.journal.specs.Stores.{beginOf as beginWords, appendOf}
 use Rattle.journal.specs.Valid.{validHeader, openingAt, validOpenings, validEntryAt, chainOf, validLink, validChain, validChains, validEntries, valid}
 use Rattle.journal.specs.Replay.{replayOf, replays}
 use Rattle.parameters.specs.Parameters.{idOf, defaultUnits, unitsAllowed, levelAllowed}
-use Rattle.fields.specs.Fields.{ownerBit, owns, holds, exactly, fieldAt, whole as wholeField}
+use Rattle.fields.specs.Fields.{ownerBit, owns, holds, exactly, fieldAt, whole as wholeField, spanOf}
 use Rattle.sensors.specs.Sensors.{freshParameter, freshSetup, freshSensor, unitsValid, levelValid, sentinelsFinite, validSetup, validSensor}
 use Rattle.sensors.specs.Changes.{restarted, calibratedAt, sensorWithSetup}
 use Rattle.registers.specs.Registers.{modeOf, headRegister, sensorRegister}
@@ -35,7 +35,7 @@ unfolding crcBit crcBits crcByte crcFrom crcOf checksumOf framed bodyOf isGood o
     allFinite sameCoefficients sameCalibration defaultsOf inLimits methodOf candidateOf verdictOf judgedOf
     methodAllowed pointsFinite samePoints validEntry replacedBy capacityOf entryWords numberAt floatAt entryAt validOpening header beginWords appendOf
     validHeader openingAt validOpenings validEntryAt chainOf validLink validChain validChains validEntries valid replayOf replays
-    idOf defaultUnits unitsAllowed levelAllowed ownerBit owns holds exactly fieldAt wholeField
+    idOf defaultUnits unitsAllowed levelAllowed ownerBit owns holds exactly fieldAt wholeField spanOf
     freshParameter freshSetup freshSensor unitsValid levelValid sentinelsFinite validSetup validSensor restarted calibratedAt sensorWithSetup
     modeOf headRegister sensorRegister updated commanded fieldWritten writeOf targetOf planOf
     up freshCounters goodCounted exceptionCounted freshSonde sensorAt setupAt withSensor withSetup countedGood countedException addressValid validSonde

@@ -1,5 +1,4 @@
 -- `plans::plan_read` meets its contract. Assumes nothing.
-use borrow.Author.Tests.{not-false, not-true}
 use Rattle.plans.specs.Plans.{readingOf}
 use borrow.Author.Needs.{needs}
 use Rattle.plans.proofs.plan_read.Statement.{statement}
@@ -7,11 +6,25 @@ use Rattle.plans.proofs.plan_read.Tie as tie
 
 returns : tie.Need-returns
 unfolding readingOf
-returns c = simp (← c .before .all-exist .ensures, not-true (c .before .all-exist .result) (c .if1 .taken))
+returns c = simp (← c .before .before .span .ensures, c .enum-told .given .1)
 
 returns-2 : tie.Need-returns-2
 unfolding readingOf
-returns-2 c = simp (← c .before .all-exist .ensures, not-false (c .before .all-exist .result) (c .if1 .left))
+returns-2 c = simp (← c .before .before .span .ensures, c .enum-told2 .given .1)
+
+returns-3 : tie.Need-returns-3
+unfolding readingOf
+returns-3 c = simp (← c .before .before .before .span .ensures, c .before .enum-told3 .given .1, c .code-of .ensures)
 
 pub plan-read-spec : {M : Type 1} → statement M
-plan-read-spec = tie.close (tie.spec (λ c κs. search needs) returns returns-2)
+plan-read-spec =
+    tie.close
+    (tie.spec
+    (λ c κs. search needs)
+    (λ c. search needs)
+    (λ c. search needs)
+    (λ c. search needs)
+    (λ c κs. search needs)
+    returns
+    returns-2
+    returns-3)
