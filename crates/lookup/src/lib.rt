@@ -43,11 +43,11 @@ fn reach(f: Field, bit: u8, at: u16) -> u16
 pub fn span(start: u16, count: u16) -> Span
     ensures { λ r. ⌜ r ≡ spanOf start count ⌝ }
 {
+    let offset = start % 100;
     let bit = owner_bit(start / 100);
     if (bit == 0) & (0 < count) {
         return Span::Gap;
     }
-    let offset = start % 100;
     let end = (offset as u32) + (count as u32);
     let table = FIELDS;
     let mut at = offset;

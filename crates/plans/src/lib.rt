@@ -127,14 +127,12 @@ pub fn judge(own: u8, body: &[u8]) -> Plan
     ensures { λ r. ⌜ r ≡ planOf own (now (body .entry)) ⌝ }
 {
     let address = modbus::address(body);
-    if address == 0 {
-        if modbus::function(body) == 3 {
-            return Plan::BroadcastRead;
-        }
-        return on_map(modbus::decode(body));
+    let broadcast = address == 0;
+    if broadcast & (modbus::function(body) == 3) {
+        return Plan::BroadcastRead;
     }
-    if address == own {
-        return on_map(modbus::decode(body));
+    if !broadcast & (address != own) {
+        return Plan::Foreign;
     }
-    Plan::Foreign
+    on_map(modbus::decode(body))
 }

@@ -6,23 +6,23 @@ use Rattle.lookup.proofs.owner_bit.Tie as tie
 
 returns : tie.Need-returns
 unfolding ownerBit
-returns c = cc
+returns c = simp (c .match .keys1)
 
 returns-2 : tie.Need-returns-2
 unfolding ownerBit
-returns-2 c = cc
+returns-2 c = simp (c .match .keys2)
 
 returns-3 : tie.Need-returns-3
 unfolding ownerBit
-returns-3 c = cc
+returns-3 c = simp (c .match .keys3)
 
 returns-4 : tie.Need-returns-4
 unfolding ownerBit
-returns-4 c = cc
+returns-4 c = simp (c .match .keys4)
 
 returns-5 : tie.Need-returns-5
 unfolding ownerBit
-returns-5 c = cc
+returns-5 c = simp (c .match .keys5)
 
 returns-6 : tie.Need-returns-6
 unfolding ownerBit

@@ -1,36 +1,47 @@
--- `plans::judge` meets its contract. Assumes nothing.
-use borrow.Author.Tests.{eq-eqb, ne-eqb}
-use Rattle.plans.specs.Plans.{planOf}
+-- `plans::judge` meets its contract: its two tests are the choices of the definition, by cases. Assumes nothing.
+use mathlib.Core.Path.{_≡_, refl, sym}
+use mathlib.Core.Bool.{Bool, true, false, _&&_, not, cond}
+use lib.Dec.{eqb}
 use borrow.Author.Needs.{needs}
+use borrow.Author.Tests.{not-true}
+use Rattle.floats.proofs.Bools.{no, both}
+use Rattle.plans.specs.Plans.{planOf}
+use Rattle.plans.specs.declared.Plan.{Plan}
 use Rattle.plans.proofs.judge.Statement.{statement}
 use Rattle.plans.proofs.judge.Tie as tie
 
+-- z: address 0; t: function 3; o: the own address
+asked : (z t o : Bool) (b a f : Plan) → (z && t) ≡ false → (not z && not o) ≡ false → cond z (cond t b a) (cond o a f) ≡ a
+asked true true o b a f e g = absurd (no (sym e))
+asked true false o b a f e g = refl
+asked false t true b a f e g = refl
+asked false t false b a f e g = absurd (no (sym g))
+
 returns : tie.Need-returns
 unfolding planOf
-returns c = simp (← c .before .before .before .address .ensures, eq-eqb _ _ (c .before .before .if1 .taken), ← c .before .function .ensures, eq-eqb _ _ (c .if2 .taken))
+returns c =
+    let f = c .before .function in
+    let a = c .before .before .address in
+    let p = both (eqb (a .result) 0) (eqb (f .result) 3) (c .if1 .taken) in
+    simp (← a .ensures, ← f .ensures, p .0, p .1)
 
 returns-2 : tie.Need-returns-2
 unfolding planOf
 returns-2 c =
-    let a = c .before in
-    let b = a .before in
-    let d = b .before in
-    let e = d .before in
-    let f = e .before in
-    simp (← f .address .ensures, eq-eqb _ _ (e .if1 .taken), ← d .function .ensures, ne-eqb _ _ (b .if2 .left), ← a .decode .ensures, ← c .on-map .ensures)
+    let a = c .before .before .before .address in
+    let own = c .before .before .before .before .before .args .own in
+    let p = both (not (eqb (a .result) 0)) (not (eqb (a .result) own)) (c .if2 .taken) in
+    simp (← a .ensures, not-true (eqb (a .result) 0) (p .0), not-true (eqb (a .result) own) (p .1))
 
 returns-3 : tie.Need-returns-3
 unfolding planOf
 returns-3 c =
-    let a = c .before in
-    let b = a .before in
-    let d = b .before in
-    let e = d .before in
-    simp (← e .address .ensures, ne-eqb _ _ (d .if1 .left), eq-eqb _ _ (b .if3 .taken), ← a .decode2 .ensures, ← c .on-map2 .ensures)
-
-returns-4 : tie.Need-returns-4
-unfolding planOf
-returns-4 c = simp (← c .before .before .address .ensures, ne-eqb _ _ (c .before .if1 .left), ne-eqb _ _ (c .if3 .left))
+    let d = c .before .before in
+    let f = d .before .before .function in
+    let a = d .before .before .before .address in
+    let own = d .before .before .before .before .before .args .own in
+    rw (← a .ensures, ← f .ensures, ← c .before .decode .ensures, ← c .on-map .ensures)
+    (sym (asked (eqb (a .result) 0) (eqb (f .result) 3) (eqb (a .result) own) _ _ _ (d .before .if1 .left) (d .if2 .left)))
 
 pub judge-spec : {M : Type 1} → statement M
 judge-spec =
@@ -39,10 +50,7 @@ judge-spec =
     (λ c κs. search needs)
     (λ c κs. search needs)
     returns
-    (λ c κs. search needs)
-    (λ c κs. search needs)
     returns-2
     (λ c κs. search needs)
     (λ c κs. search needs)
-    returns-3
-    returns-4)
+    returns-3)
