@@ -3,7 +3,6 @@ use mathlib.Core.Path.{_≡_, refl, ap}
 use mathlib.Core.Bool.{Bool, true, false, cond}
 use Prim.Native.Nat.{ℕ, zero, suc, _/_, _%_, _<_}
 use native.Mathlib.Nat.{not-suc-le-zero}
-use native.Mathlib.Omega.{arith}
 use lib.Bits.{and-zero-r}
 use Rattle.floats.proofs.Bools.{choose}
 use Rattle.fields.specs.declared.Field.{Field}
@@ -29,19 +28,6 @@ module _ (start count : ℕ) where
   pub span-gap : allFound start count ≡ false → spanOf start count ≡ Gap
   unfolding spanOf
   span-gap a = rw a
-
--- what a search for the whole field told
-pub row-of : {f : Field} (x : Found) → spanIn x ≡ Whole f → x ≡ Row f
-row-of (Row g) e = cc
-row-of Absent e = cc
-
-pub none-of : (x : Found) → spanIn x ≡ Mismatch → x ≡ Absent
-none-of (Row g) e = cc
-none-of Absent e = refl
-
-pub no-gap : (x : Found) → spanIn x ≡ Gap → ⊥
-no-gap (Row g) e = let z : _≡_ {A = ℕ} 0 1 = cc in omega arith
-no-gap Absent e = let z : _≡_ {A = ℕ} 0 1 = cc in omega arith
 
 -- registers that nobody owns
 pub span-unowned : (start count : ℕ) → ownerBit (start / 100) ≡ 0 → 0 < count → spanOf start count ≡ Gap

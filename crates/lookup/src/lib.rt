@@ -1,12 +1,11 @@
 // The search of the table of fields: what registers that adjoin are.
 ghost use mathlib.Core.Path.{_≡_};
 ghost use Prim.Native.Nat.{_+_, _≤_};
-ghost use Rattle.fields.specs.Fields.{ownerBit, allFound, whole, spanIn, spanOf, codeOf};
+ghost use Rattle.fields.specs.Fields.{ownerBit, spanOf, codeOf};
 ghost use Rattle.lookup.specs.Reach.{reachBy};
 
 pub mod rows; // the table
 
-use crate::rows::FIELDS;
 use crate::rows::ROWS;
 use fields::Field;
 use fields::Span;
@@ -38,61 +37,32 @@ fn reach(f: Field, bit: u8, at: u16) -> u16
     at
 }
 
-// The field that is exactly these registers; `Mismatch` where there is none. No row has more than two words, so none before row offset / 2
-// holds the first register.
-fn whole_field(start: u16, count: u16) -> Span
-    ensures { λ r. ⌜ r ≡ spanIn (whole start count) ⌝ }
+// What `count` registers from `start` on are, in one pass over the rows; none past 0xFFFF exists. No row has more than two words, so none
+// before row offset / 2 holds the first register.
+pub fn span(start: u16, count: u16) -> Span
+    ensures { λ r. ⌜ r ≡ spanOf start count ⌝ }
 {
     let offset = start % 100;
     let bit = owner_bit(start / 100);
-    let table = FIELDS;
+    if (bit == 0) & (0 < count) {
+        return Span::Gap;
+    }
+    let end = (offset as u32) + (count as u32);
+    let table = rows::table();
+    let mut at = offset;
     let mut i = (offset / 2) as usize;
     while i < ROWS {
         let f = table[i];
         if (f.owners & bit != 0) & (f.offset == offset) & (f.words == count) {
             return Span::Whole(f);
         }
+        at = reach(f, bit, at);
         i += 1;
     }
-    Span::Mismatch
-}
-
-// Whether `count` registers from `start` on all exist, in one pass over the rows; none past 0xFFFF does.
-fn all_exist(start: u16, count: u16) -> bool
-    ensures { λ r. ⌜ r ≡ allFound start count ⌝ }
-{
-    let offset = start % 100;
-    let bit = owner_bit(start / 100);
-    let end = (offset as u32) + (count as u32);
-    let table = FIELDS;
-    let mut at = offset;
-    let mut i = (offset / 2) as usize;
-    while i < ROWS {
-        at = reach(table[i], bit, at);
-        i += 1;
+    if end <= (at as u32) {
+        return Span::Mismatch;
     }
-    end <= (at as u32)
-}
-
-// What `count` registers from `start` on are. A whole field's registers exist, so they are asked for only where there is none; registers that
-// nobody owns are no field.
-pub fn span(start: u16, count: u16) -> Span
-    ensures { λ r. ⌜ r ≡ spanOf start count ⌝ }
-{
-    if (owner_bit(start / 100) == 0) & (0 < count) {
-        return Span::Gap;
-    }
-    match whole_field(start, count) {
-        Span::Whole(f) => Span::Whole(f),
-        Span::Mismatch => {
-            if all_exist(start, count) {
-                return Span::Mismatch;
-            }
-            Span::Gap
-        }
-        // Never: `whole_field` asks for no register.
-        Span::Gap => Span::Gap,
-    }
+    Span::Gap
 }
 
 // 0, or the code that refuses the registers.

@@ -1,5 +1,7 @@
 // The table of fields, one row for each: first the device's, then the sensors', then those of parameters 1, 2 and 3. An owner's fields stand in
 // the order of their offsets.
+ghost use mathlib.Core.Path.{_≡_};
+ghost use Rattle.fields.specs.Fields.{fields};
 use fields::Field;
 use fields::MODAL;
 use fields::READ_ONLY;
@@ -302,3 +304,10 @@ pub const FIELDS: [Field; ROWS] = [
         owners: SENSOR_1,
     },
 ];
+
+// The table, for a search of it.
+pub fn table() -> [Field; ROWS]
+    ensures { λ r. ⌜ r ≡ fields ⌝ }
+{
+    FIELDS
+}
