@@ -10,7 +10,6 @@ use lib.Dec.{eqb}
 use borrow.Author.Tests.{eqb-true, eqb-false}
 use Rattle.floats.proofs.Bools.{both}
 use Rattle.fields.specs.declared.Field.{Field}
-use Rattle.fields.specs.Fields.{Found}
 use Rattle.fields.specs.Fields.Found.{Row, Absent}
 use Rattle.fields.specs.Fields.{firstOf, found}
 

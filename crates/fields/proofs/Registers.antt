@@ -12,9 +12,9 @@ use Rattle.floats.proofs.Bools.{both, beq-true}
 use Rattle.fields.specs.declared.Field.{Field}
 use Rattle.fields.specs.Fields.{Found}
 use Rattle.fields.specs.Fields.Found.{Row, Absent}
-use Rattle.fields.specs.Fields.{field, fields, ownerBit, owns, holds, exactly, firstOf, fieldAt, found, whole}
+use Rattle.fields.specs.Fields.{field, fields, ownerBit, owns, holds, exactly, fieldAt, found, whole}
 use Rattle.fields.specs.Map.{inMap}
-use Rattle.fields.proofs.Computed.{given, every, below, at-number, absent, same, first-passes, also-found, none-found}
+use Rattle.fields.proofs.Computed.{given, every, below, at-number, first-passes, also-found, none-found}
 
 -- ---- owners
 

@@ -1,8 +1,8 @@
 -- Registers that adjoin: one pass over the rows tells how far those that exist reach, since an owner's rows stand in order. Assumes nothing.
 use mathlib.Core.Path.{_≡_, refl, sym, ap, _∙_}
-use mathlib.Core.Bool.{Bool, true, false, _&&_, not, cond, false≢true, and-false}
+use mathlib.Core.Bool.{Bool, true, false, _&&_, cond, false≢true, and-false}
 use mathlib.Core.List.{List, [], _∷_}
-use Prim.Native.Nat.{ℕ, zero, suc, _+_, _*_, _/_, _%_, _<_, _≤_}
+use Prim.Native.Nat.{ℕ, zero, suc, _+_, _/_, _%_, _<_, _≤_}
 use native.Mathlib.Nat.{add-zero, le-refl, le-of-suc-le-suc, not-suc-le-zero}
 use native.Mathlib.Omega.{arith}
 use lib.Dec.{eqb, leb, ltb}
@@ -10,7 +10,7 @@ use lib.ListN.{take, drop}
 use borrow.Author.Tests.{eqb-true, leb-true, ltb-true, ltb-false, le-leb, lt-leb, le-ltb}
 use Rattle.floats.proofs.Bools.{both}
 use Rattle.fields.specs.declared.Field.{Field}
-use Rattle.fields.specs.Fields.Found.{Row, Absent}
+use Rattle.fields.specs.Fields.Found.{Row}
 use Rattle.fields.specs.Fields.{fields, ownerBit, owns, holds, fieldAt, found, allFound, whole}
 use Rattle.fields.proofs.Computed.{every, below, at-number}
 use Rattle.fields.proofs.Registers.{Shape, shaped, shape, every-shaped, unheld, past, held-parts, found-inside, whole-registers}

@@ -1,19 +1,19 @@
 -- The search of the table, row by row from an index on. Assumes nothing.
-use mathlib.Core.Path.{_≡_, refl, sym, _∙_}
-use mathlib.Core.Bool.{Bool, true, false, _&&_, not, and-false}
+use mathlib.Core.Path.{_≡_, refl}
+use mathlib.Core.Bool.{Bool, true, false, not, and-false}
 use mathlib.Core.List.{List, [], _∷_}
 use Prim.Native.Nat.{ℕ, zero, suc, _+_, _/_, _%_, _<_}
 use native.Mathlib.Nat.{le-of-suc-le-suc, not-suc-le-zero}
 use native.Mathlib.Numerals.{add-one}
 use native.Mathlib.Omega.{arith}
-use lib.Dec.{eqb, leb, ltb}
+use lib.Dec.{leb, ltb}
 use lib.ListN.{length, getD, take, drop}
 use lib.Seq.{drop-cons}
 use borrow.Author.Tests.{ltb-true, ne-eqb, not-true}
 use Rattle.floats.proofs.Bools.{both}
 use Rattle.fields.specs.declared.Field.{Field}
-use Rattle.fields.specs.Fields.{field, fields, owns, exactly, firstOf, whole}
-use Rattle.fields.specs.Fields.Found.{Row, Absent}
+use Rattle.fields.specs.Fields.{field, fields, exactly, firstOf, whole}
+use Rattle.fields.specs.Fields.Found.{Row}
 use Rattle.fields.proofs.Computed.{every}
 use Rattle.fields.proofs.Registers.{Shape, shaped, shape, every-shaped}
 use Rattle.fields.proofs.Runs.{reach, reached, before, half-before}

@@ -1,6 +1,6 @@
 -- What registers that adjoin are: each case by what it says of them, and what it says. Assumes nothing.
-use mathlib.Core.Path.{_≡_, refl, ap}
-use mathlib.Core.Bool.{Bool, true, false, cond}
+use mathlib.Core.Path.{_≡_, refl}
+use mathlib.Core.Bool.{true, false}
 use Prim.Native.Nat.{ℕ, zero, suc, _/_, _%_, _<_}
 use native.Mathlib.Nat.{not-suc-le-zero}
 use lib.Bits.{and-zero-r}
@@ -8,7 +8,7 @@ use Rattle.floats.proofs.Bools.{choose}
 use Rattle.fields.specs.declared.Field.{Field}
 use Rattle.fields.specs.declared.Span.{Span}
 use Rattle.fields.specs.declared.Span.the-variants.{Whole, Mismatch, Gap}
-use Rattle.fields.specs.Fields.{Found, fields, ownerBit, owns, holds, fieldAt, found, allFound, whole, spanIn, spanOf}
+use Rattle.fields.specs.Fields.{Found, fields, ownerBit, owns, holds, fieldAt, allFound, whole, spanIn, spanOf}
 use Rattle.fields.specs.Fields.Found.{Row, Absent}
 use Rattle.fields.proofs.Computed.{none-found}
 use Rattle.fields.proofs.Runs.{whole-found}

@@ -7,6 +7,7 @@ use entries::Entry;
 use entries::entry_of;
 use entries::method_allowed;
 use fields::Field;
+use fields::MODAL;
 use floats::FloatOf;
 use methods::Points;
 use methods::Verdict;
@@ -237,7 +238,7 @@ pub fn write(
     ensures { λ r. ⌜ r ≡ writeOf sensor s field high low clock spare ⌝ }
 {
     let calibrating = s.calibrating;
-    if (field.access == 2) & !calibrating {
+    if (field.access == MODAL) & !calibrating {
         return Written::Refused(codes::SENSOR_MODE);
     }
     write_field(sensor, s, field.offset, high, low, clock, spare)
