@@ -3,11 +3,11 @@
 use mathlib.Core.Path.{_≡_, refl, ap}
 use mathlib.Core.Bool.{Bool, true, false, _&&_, _||_, not, cond, false≢true}
 use mathlib.Core.List.{List, [], _∷_}
-use Prim.Native.Nat.{ℕ, zero, suc, _<_}
+use Prim.Native.Nat.{ℕ, zero, suc, _<_, _≤_}
 use native.Mathlib.Nat.{not-suc-le-zero}
 use native.Mathlib.Omega.{arith}
-use lib.Dec.{eqb}
-use borrow.Author.Tests.{eqb-true, eqb-false}
+use lib.Dec.{eqb, ltb}
+use borrow.Author.Tests.{eqb-true, eqb-false, ltb-true, ltb-false}
 use Rattle.floats.proofs.Bools.{both}
 use Rattle.fields.specs.declared.Field.{Field}
 use Rattle.fields.specs.Fields.Found.{Row, Absent}
@@ -41,6 +41,14 @@ at-number t (suc n) e i h =
     go : (b : Bool) → eqb i n ≡ b → t n ≡ true → (i < n → t i ≡ true) → t i ≡ true
     go true q e rest = rw (eqb-true i n q) e
     go false q e rest = let d : i ≡ n → ⊥ = eqb-false i n q in rest (omega arith)
+
+-- and any number does that passes past the bound
+pub everywhere : (t : ℕ → Bool) (n : ℕ) → below t n ≡ true → ((i : ℕ) → n ≤ i → t i ≡ true) → (i : ℕ) → t i ≡ true
+everywhere t n e rest i = go (ltb i n) refl
+  where
+    go : (b : Bool) → ltb i n ≡ b → t i ≡ true
+    go true q = at-number t n e i (ltb-true i n q)
+    go false q = rest i (ltb-false i n q)
 
 -- ---- the row that is found
 

@@ -14,7 +14,7 @@ use Rattle.fields.specs.Fields.{Found}
 use Rattle.fields.specs.Fields.Found.{Row, Absent}
 use Rattle.fields.specs.Fields.{field, fields, ownerBit, owns, holds, exactly, fieldAt, found, whole}
 use Rattle.fields.specs.Map.{inMap}
-use Rattle.fields.proofs.Computed.{given, every, below, at-number, first-passes, also-found, none-found}
+use Rattle.fields.proofs.Computed.{given, every, below, at-number, everywhere, first-passes, also-found, none-found}
 
 -- ---- owners
 
@@ -32,7 +32,7 @@ owner-below f owner o = go (ltb owner 5) refl
     go true q = ltb-true owner 5 q
     go false q = absurd (false≢true (sym (unowned f owner (ltb-false owner 5 q)) ∙ o))
 
--- the row of a register
+-- nor do they hold a register of any other owner
 pub unheld : (f : Field) (owner offset : ℕ) → 5 ≤ owner → holds f owner offset ≡ false
 unfolding holds
 unheld f owner offset h = rw (unowned f owner h)
@@ -63,17 +63,10 @@ held-parts f owner offset e =
     let q = both (owns f owner) (leb (f .offset) offset) (p .0) in
     record { owned = q .0; from = leb-true _ _ (q .1); within = ltb-true _ _ (p .1) }
 
-any : Field → Bool
-any f = true
-
-every-any : every any fields ≡ true
-unfolding any
-every-any = refl
-
 -- the row of a register owns it and covers its offset
 pub found-covered : (r : ℕ) (f : Field) → fieldAt r ≡ Row f → Covered f (r / 100) (r % 100)
 unfolding fieldAt
-found-covered r f e = held-parts f (r / 100) (r % 100) (first-passes (λ g. holds g (r / 100) (r % 100)) any fields every-any f e .0)
+found-covered r f e = held-parts f (r / 100) (r % 100) (first-passes (λ g. holds g (r / 100) (r % 100)) (λ g. true) fields refl f e .0)
 
 -- ---- the shape of a row
 
@@ -114,17 +107,13 @@ mapped : below (λ r. Bool·beq (found (fieldAt r)) (inMap r)) 500 ≡ true
 unfolding fieldAt holds owns ownerBit inMap
 mapped = refl
 
-outside : (r : ℕ) → 500 ≤ r → inMap r ≡ false
-unfolding inMap
-outside r h = rw (le-ltb r 100 (omega arith), le-ltb r 500 h)
-
 -- the registers of the table are those of the map
 pub map-exact : (r : ℕ) → found (fieldAt r) ≡ inMap r
-map-exact r = go (ltb r 500) refl
+unfolding inMap
+map-exact r = beq-true _ _ (everywhere (λ r. Bool·beq (found (fieldAt r)) (inMap r)) 500 mapped outside r)
   where
-    go : (b : Bool) → ltb r 500 ≡ b → found (fieldAt r) ≡ inMap r
-    go true q = beq-true _ _ (at-number (λ r. Bool·beq (found (fieldAt r)) (inMap r)) 500 mapped r (ltb-true r 500 q))
-    go false q = ap found (past r (ltb-false r 500 q)) ∙ sym (outside r (ltb-false r 500 q))
+    outside : (r : ℕ) → 500 ≤ r → Bool·beq (found (fieldAt r)) (inMap r) ≡ true
+    outside r h = rw (past r h, le-ltb r 100 (omega arith), le-ltb r 500 h)
 
 -- ---- whole fields
 

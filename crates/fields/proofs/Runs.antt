@@ -7,12 +7,12 @@ use native.Mathlib.Nat.{add-zero, le-refl, le-of-suc-le-suc, not-suc-le-zero}
 use native.Mathlib.Omega.{arith}
 use lib.Dec.{eqb, leb, ltb}
 use lib.ListN.{take, drop}
-use borrow.Author.Tests.{eqb-true, leb-true, ltb-true, ltb-false, le-leb, lt-leb, le-ltb}
+use borrow.Author.Tests.{eqb-true, eq-eqb, leb-true, ltb-true, ltb-false, le-leb, lt-leb, le-ltb}
 use Rattle.floats.proofs.Bools.{both}
 use Rattle.fields.specs.declared.Field.{Field}
 use Rattle.fields.specs.Fields.Found.{Row}
 use Rattle.fields.specs.Fields.{fields, ownerBit, owns, holds, fieldAt, found, allFound, whole}
-use Rattle.fields.proofs.Computed.{every, below, at-number}
+use Rattle.fields.proofs.Computed.{every, below, at-number, everywhere}
 use Rattle.fields.proofs.Registers.{Shape, shaped, shape, every-shaped, unheld, past, held-parts, found-inside, whole-registers}
 
 -- ---- one pass
@@ -48,18 +48,20 @@ stays (f ∷ fs) owner at h = rw (unheld f owner at h) (stays fs owner at h)
 unfoldable pub run : ℕ → ℕ
 run r = reached fields (r / 100) (r % 100)
 
-stepped : below (λ r. eqb (run r) (cond (found (fieldAt r)) (run (suc r)) (r % 100))) 500 ≡ true
+abbrev steps : ℕ → Bool
+steps r = eqb (run r) (cond (found (fieldAt r)) (run (suc r)) (r % 100))
+
+stepped : below steps 500 ≡ true
 unfolding run reach fieldAt holds owns ownerBit
 stepped = refl
 
 -- a register that exists has the run of the next one; another has none
 step : (r : ℕ) → run r ≡ cond (found (fieldAt r)) (run (suc r)) (r % 100)
 unfolding run
-step r = go (ltb r 500) refl
+step r = eqb-true _ _ (everywhere steps 500 stepped outside r)
   where
-    go : (b : Bool) → ltb r 500 ≡ b → run r ≡ cond (found (fieldAt r)) (run (suc r)) (r % 100)
-    go true q = eqb-true _ _ (at-number (λ r. eqb (run r) (cond (found (fieldAt r)) (run (suc r)) (r % 100))) 500 stepped r (ltb-true r 500 q))
-    go false q = let h = ltb-false r 500 q in rw (past r h) (stays fields (r / 100) (r % 100) (omega arith))
+    outside : (r : ℕ) → 500 ≤ r → steps r ≡ true
+    outside r h = rw (past r h) (eq-eqb _ _ (stays fields (r / 100) (r % 100) (omega arith)))
 
 low : (fs : List Field) → every shaped fs ≡ true → (owner at : ℕ) → at < 100 → reached fs owner at < 100
 unfolding reach
