@@ -55,9 +55,9 @@ fn turn(run: Run, line: &[u8], reply: &mut [u8], volume: &mut [u16]) -> Run {
         return run;
     }
     let name = text::character(line, 0);
-    let first = text::find(line, 0, b' ');
+    let name_end = text::find(line, 0, b' ');
     let mut space = [0u8; 260];
-    let n = text::decode(&line[first..], &mut space);
+    let n = text::decode(&line[name_end..], &mut space);
     let scene = run.scene;
     let tally = run.tally;
     if (name == b'<') | (name == b'=') {

@@ -3,7 +3,6 @@ ghost use Prim.Native.Nat.{_≤_};
 ghost use Rattle.io.specs.Counts.{Counts};
 use calls::SondeMade;
 use floats::FloatOf;
-use rtu::bytes;
 use state::Sonde;
 use text::character;
 
@@ -21,7 +20,7 @@ pub struct Scene {
 fn word(spelled: &[u8], at: usize) -> u16
     requires { ⌜ at ≤ 8 ⌝ }
 {
-    bytes::word(character(spelled, at), character(spelled, at + 1))
+    words::word(character(spelled, at), character(spelled, at + 1))
 }
 
 // How many words at the start of the volume are lent where n are to be: none if it has fewer.

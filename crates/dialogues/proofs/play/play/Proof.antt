@@ -1,4 +1,4 @@
--- `dialogues::play::play` is safe and ends: a line begins at most one past the end. Assumes nothing.
+-- It is safe and ends: a line begins at most one past the end. Assumes nothing.
 use borrow.Author.Needs.{needs}
 use lib.ListN.{length}
 use mathlib.Core.Path.{_≡_}

@@ -1,4 +1,4 @@
--- `dialogues::play::play_all` is safe and ends: a dialogue begins at most one past the end. Assumes nothing.
+-- It is safe and ends: a dialogue begins at most one past the end. Assumes nothing.
 use borrow.Author.Needs.{needs}
 use lib.ListN.{length}
 use Prim.Native.Nat.{_≤_, _+_, _-_}

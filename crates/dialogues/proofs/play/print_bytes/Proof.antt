@@ -1,4 +1,4 @@
--- `dialogues::play::print_bytes` is safe and ends: the index stays within the bytes. Assumes nothing.
+-- It is safe and ends: the index stays within the bytes. Assumes nothing.
 use borrow.Author.Needs.{needs}
 use lib.ListN.{length}
 use mathlib.Core.Path.{_≡_}

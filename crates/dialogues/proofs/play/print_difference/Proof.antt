@@ -1,4 +1,4 @@
--- `dialogues::play::print_difference` is safe: the bytes printed are some of the reply's. Assumes nothing.
+-- It is safe: the bytes printed are some of the reply's. Assumes nothing.
 use native.Mathlib.Omega.{arith}
 use mathlib.Core.Path.{sym}
 use lib.Seq.{length-take-le}

@@ -1,4 +1,4 @@
--- `dialogues::scene::is_same` is safe and ends: the index stays within both slices. Assumes nothing.
+-- It is safe and ends: the index stays within both slices. Assumes nothing.
 use borrow.Author.Needs.{needs}
 use lib.ListN.{length}
 use mathlib.Core.Path.{_≡_}

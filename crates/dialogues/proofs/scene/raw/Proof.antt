@@ -1,4 +1,4 @@
--- `dialogues::scene::raw` is safe: the bits of infinity are no NaN's. Assumes nothing.
+-- It is safe: the bits of infinity are no NaN's. Assumes nothing.
 use lib.Ieee.{nanBits}
 use borrow.Author.Needs.{needs}
 use Rattle.dialogues.proofs.scene.raw.Statement.{statement}
