@@ -8,8 +8,9 @@ use native.Mathlib.Omega.{arith}
 use borrow.Author.Tests.{eqb-true, ltb-false}
 use lib.Dec.{ltb, eqb, lit<, lit≤}
 use lib.ListN.{length, getD}
-use Rattle.rtu.specs.Bytes.{Bytes, wordAt}
-use Rattle.modbus.specs.Request.{functionOf, readOf, writeOneOf, secondOf, writeManyOf, writeMaskOf, requestOf}
+use Rattle.words.specs.Bytes.{wordAt}
+use Rattle.words.proofs.Bytes.{Bytes}
+use Rattle.modbus.specs.Request.{functionOf, readOf, writeOneOf, word2Of, writeManyOf, writeMaskOf, requestOf}
 use Rattle.modbus.specs.declared.Request.{Request}
 use Rattle.modbus.specs.declared.Request.the-variants.{Unsupported, Malformed, Read, Write, Mask}
 
@@ -17,29 +18,29 @@ abbrev Word : ℕ → Type 0
 Word n = n < 65536
 
 pub record ReadInRange (body : List ℕ) (start count : ℕ) : Type 0 where
-  pub start-word : Bytes body → Word start
+  pub start-fits : Bytes body → Word start
   pub least : 1 ≤ count
   pub most : count ≤ 125
 
-pub record WriteInRange (body : List ℕ) (start count first second : ℕ) : Type 0 where
+pub record WriteInRange (body : List ℕ) (start count word1 word2 : ℕ) : Type 0 where
   pub long : 6 ≤ length body
-  pub start-word : Bytes body → Word start
+  pub start-fits : Bytes body → Word start
   pub least : 1 ≤ count
   pub most : count ≤ 123
-  pub first-word : Bytes body → Word first
-  pub second-word : Bytes body → Word second
+  pub word1-fits : Bytes body → Word word1
+  pub word2-fits : Bytes body → Word word2
 
 pub record MaskInRange (body : List ℕ) (register andMask orMask : ℕ) : Type 0 where
   pub long : 6 ≤ length body
-  pub register-word : Bytes body → Word register
-  pub and-word : Bytes body → Word andMask
-  pub or-word : Bytes body → Word orMask
+  pub register-fits : Bytes body → Word register
+  pub and-fits : Bytes body → Word andMask
+  pub or-fits : Bytes body → Word orMask
 
 abbrev pub InRange : List ℕ → Request → Type 0
 InRange body Unsupported = Unit {0}
 InRange body Malformed = Unit {0}
 InRange body (Read start count) = ReadInRange body start count
-InRange body (Write start count first second) = WriteInRange body start count first second
+InRange body (Write start count word1 word2) = WriteInRange body start count word1 word2
 InRange body (Mask register andMask orMask) = MaskInRange body register andMask orMask
 
 module _ (s : List ℕ) where
@@ -54,9 +55,8 @@ module _ (s : List ℕ) where
   pick true m n hm hn = hm
   pick false m n hm hn = hn
 
-  second : Bytes s → Word (secondOf s)
-  unfolding secondOf
-  second bytes = pick (ltb (length s) 11) 0 (wordAt s 9) (lit< tt) (word 9 bytes)
+  word2 : Bytes s → Word (word2Of s)
+  word2 bytes = pick (ltb (length s) 11) 0 (wordAt s 9) (lit< tt) (word 9 bytes)
 
   read : InRange s (readOf s)
   unfolding readOf
@@ -66,7 +66,7 @@ module _ (s : List ℕ) where
       either (ltb (wordAt s 4) 1) Malformed _ (λ t. tt)
       (λ least.
       either (ltb 125 (wordAt s 4)) Malformed (Read (wordAt s 2) (wordAt s 4)) (λ t. tt)
-      (λ most. record { start-word = word 2; least = ltb-false (wordAt s 4) 1 least; most = ltb-false 125 (wordAt s 4) most })))
+      (λ most. record { start-fits = word 2; least = ltb-false (wordAt s 4) 1 least; most = ltb-false 125 (wordAt s 4) most })))
       (λ t. tt)
 
   write-one : InRange s (writeOneOf s)
@@ -76,18 +76,18 @@ module _ (s : List ℕ) where
       (λ six.
       record {
         long = omega (arith, eqb-true (length s) 6 six);
-        start-word = word 2;
+        start-fits = word 2;
         least = lit≤ tt;
         most = lit≤ tt;
-        first-word = word 4;
-        second-word = λ bytes. lit< tt;
+        word1-fits = word 4;
+        word2-fits = λ bytes. lit< tt;
       })
       (λ t. tt)
 
   write-many : InRange s (writeManyOf s)
   unfolding writeManyOf
   write-many =
-      let w = Write (wordAt s 2) (wordAt s 4) (wordAt s 7) (secondOf s) in
+      let w = Write (wordAt s 2) (wordAt s 4) (wordAt s 7) (word2Of s) in
       either (ltb (length s) 9) Malformed _ (λ t. tt)
       (λ nine.
       either (ltb (wordAt s 4) 1) Malformed _ (λ t. tt)
@@ -100,11 +100,11 @@ module _ (s : List ℕ) where
       (λ exact.
       record {
         long = omega (arith, ltb-false (length s) 9 nine);
-        start-word = word 2;
+        start-fits = word 2;
         least = ltb-false (wordAt s 4) 1 least;
         most = ltb-false 123 (wordAt s 4) most;
-        first-word = word 7;
-        second-word = second;
+        word1-fits = word 7;
+        word2-fits = word2;
       })
       (λ t. tt))
       (λ t. tt))))
@@ -113,7 +113,7 @@ module _ (s : List ℕ) where
   unfolding writeMaskOf
   write-mask =
       either (eqb (length s) 8) (Mask (wordAt s 2) (wordAt s 4) (wordAt s 6)) Malformed
-      (λ eight. record { long = omega (arith, eqb-true (length s) 8 eight); register-word = word 2; and-word = word 4; or-word = word 6 }) (λ t. tt)
+      (λ eight. record { long = omega (arith, eqb-true (length s) 8 eight); register-fits = word 2; and-fits = word 4; or-fits = word 6 }) (λ t. tt)
 
   -- whatever a body asks for is in range
   pub in-range : InRange s (requestOf s)

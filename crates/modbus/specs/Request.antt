@@ -2,11 +2,10 @@
 -- and 1..123 (16). Which registers exist is another layer's matter. Assumes nothing.
 use mathlib.Core.Bool.{cond}
 use mathlib.Core.List.{List}
-use Prim.Native.Nat.{ℕ, _+_, _-_, _*_}
-use lib.Bits.{bitAnd, bitOr}
+use Prim.Native.Nat.{ℕ, _+_, _*_}
 use lib.Dec.{ltb, eqb}
 use lib.ListN.{length, getD}
-use Rattle.rtu.specs.Bytes.{wordAt}
+use Rattle.words.specs.Bytes.{wordAt}
 use Rattle.modbus.specs.declared.Request.{Request}
 use Rattle.modbus.specs.declared.Request.the-variants.{Unsupported, Malformed, Read, Write, Mask}
 
@@ -29,18 +28,18 @@ readOf s = cond (eqb (length s) 6) (counted 125 (wordAt s 4) (Read (wordAt s 2) 
 unfoldable pub writeOneOf : List ℕ → Request
 writeOneOf s = cond (eqb (length s) 6) (Write (wordAt s 2) 1 (wordAt s 4) 0) Malformed
 
--- the second of the values of function 16; with one value there is none
-unfoldable pub secondOf : List ℕ → ℕ
-secondOf s = cond (ltb (length s) 11) 0 (wordAt s 9)
+-- the second word of function 16; one that isn't sent is 0
+abbrev pub word2Of : List ℕ → ℕ
+word2Of s = cond (ltb (length s) 11) 0 (wordAt s 9)
 
 -- function 16: address, 16, start, count, byte count = 2 × count, then that many bytes, at least two. A field has at most two words, so the
--- first two values are all that a layer above can want.
+-- first two are all that a layer above can want.
 unfoldable pub writeManyOf : List ℕ → Request
 writeManyOf s =
     cond (ltb (length s) 9) Malformed
     (counted 123 (wordAt s 4)
     (cond (eqb (getD s 6 0) (2 * wordAt s 4))
-    (cond (eqb (length s) (7 + getD s 6 0)) (Write (wordAt s 2) (wordAt s 4) (wordAt s 7) (secondOf s)) Malformed)
+    (cond (eqb (length s) (7 + getD s 6 0)) (Write (wordAt s 2) (wordAt s 4) (wordAt s 7) (word2Of s)) Malformed)
     Malformed))
 
 -- function 22: address, 22, register, and-mask, or-mask
@@ -61,9 +60,5 @@ abbrev pub codeOf : Request → ℕ
 codeOf Unsupported = 1
 codeOf Malformed = 3
 codeOf (Read start count) = 0
-codeOf (Write start count first second) = 0
+codeOf (Write start count word1 word2) = 0
 codeOf (Mask register andMask orMask) = 0
-
--- "(old and A) or (B and not A)"; of a word, not A is 0xFFFF - A
-unfoldable pub maskedOf : ℕ → ℕ → ℕ → ℕ
-maskedOf old a b = bitOr (bitAnd old a) (bitAnd b (0xFFFF - a))

@@ -1,8 +1,7 @@
 // What a body of bytes asks for: functions 3, 6, 16 and 22. Nothing here knows which registers exist or what they mean.
 ghost use mathlib.Core.Path.{_≡_};
-ghost use Rattle.modbus.specs.Request.{addressOf, functionOf, requestOf, readOf, writeOneOf, writeManyOf, writeMaskOf, secondOf, codeOf, maskedOf};
+ghost use Rattle.modbus.specs.Request.{addressOf, functionOf, requestOf, readOf, writeOneOf, writeManyOf, writeMaskOf, codeOf};
 use refusals::codes;
-use rtu::bytes;
 
 pub enum Request {
     // Another function.
@@ -17,8 +16,8 @@ pub enum Request {
     Write {
         start: u16,
         count: u16,
-        first: u16,
-        second: u16,
+        word1: u16,
+        word2: u16,
     },
     Mask {
         register: u16,
@@ -67,8 +66,8 @@ fn decode_read(body: &[u8]) -> Request
     if body.len() != 6 {
         return Request::Malformed;
     }
-    let start = bytes::word_at(body, 2);
-    let count = bytes::word_at(body, 4);
+    let start = words::word_at(body, 2);
+    let count = words::word_at(body, 4);
     if count < 1 {
         return Request::Malformed;
     }
@@ -85,13 +84,13 @@ fn decode_write_one(body: &[u8]) -> Request
     if body.len() != 6 {
         return Request::Malformed;
     }
-    let start = bytes::word_at(body, 2);
-    let first = bytes::word_at(body, 4);
+    let start = words::word_at(body, 2);
+    let word1 = words::word_at(body, 4);
     Request::Write {
         start,
         count: 1,
-        first,
-        second: 0,
+        word1,
+        word2: 0,
     }
 }
 
@@ -103,8 +102,8 @@ fn decode_write_many(body: &[u8]) -> Request
     if n < 9 {
         return Request::Malformed;
     }
-    let start = bytes::word_at(body, 2);
-    let count = bytes::word_at(body, 4);
+    let start = words::word_at(body, 2);
+    let count = words::word_at(body, 4);
     if count < 1 {
         return Request::Malformed;
     }
@@ -118,24 +117,22 @@ fn decode_write_many(body: &[u8]) -> Request
     if n != 7 + size {
         return Request::Malformed;
     }
-    let first = bytes::word_at(body, 7);
-    let second = second_word(body);
+    let word1 = words::word_at(body, 7);
+    if n < 11 {
+        return Request::Write {
+            start,
+            count,
+            word1,
+            word2: 0,
+        };
+    }
+    let word2 = words::word_at(body, 9);
     Request::Write {
         start,
         count,
-        first,
-        second,
+        word1,
+        word2,
     }
-}
-
-// The second value of function 16, or 0 where it isn't sent.
-fn second_word(body: &[u8]) -> u16
-    ensures { λ r. ⌜ r ≡ secondOf (now (body .entry)) ⌝ }
-{
-    if body.len() < 11 {
-        return 0;
-    }
-    bytes::word_at(body, 9)
 }
 
 // Function 22: register, and-mask, or-mask.
@@ -145,9 +142,9 @@ fn decode_write_mask(body: &[u8]) -> Request
     if body.len() != 8 {
         return Request::Malformed;
     }
-    let register = bytes::word_at(body, 2);
-    let and_mask = bytes::word_at(body, 4);
-    let or_mask = bytes::word_at(body, 6);
+    let register = words::word_at(body, 2);
+    let and_mask = words::word_at(body, 4);
+    let or_mask = words::word_at(body, 6);
     Request::Mask {
         register,
         and_mask,
@@ -166,8 +163,8 @@ pub fn code_of(r: Request) -> u8
         Request::Write {
             start: _,
             count: _,
-            first: _,
-            second: _,
+            word1: _,
+            word2: _,
         } => 0,
         Request::Mask {
             register: _,
@@ -175,11 +172,4 @@ pub fn code_of(r: Request) -> u8
             or_mask: _,
         } => 0,
     }
-}
-
-// What function 22 writes over an old value: a is the and-mask, b the or-mask.
-pub fn masked(old: u16, a: u16, b: u16) -> u16
-    ensures { λ r. ⌜ r ≡ maskedOf old a b ⌝ }
-{
-    (old & a) | (b & !a)
 }

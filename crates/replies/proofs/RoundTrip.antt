@@ -6,11 +6,11 @@ use Prim.Native.Nat.{ℕ, _*_, _≤_}
 use native.Mathlib.Omega.{arith}
 use lib.Dec.{lit≤}
 use lib.ListN.{length}
-use Rattle.rtu.specs.Bytes.{bytesOf}
+use Rattle.words.specs.Bytes.{bytesOf}
+use Rattle.words.proofs.Bytes.{bytes-length}
 use Rattle.rtu.specs.Frame.{isGood}
 use Rattle.rtu.proofs.RoundTrip.{framed-is-good}
 use Rattle.replies.specs.Reply.{readBody, writeBody, exceptionBody, readReply, echoReply, writeReply, exceptionReply}
-use Rattle.replies.proofs.Stores.{bytes-length}
 
 -- every reply of at most 125 words passes the RTU check
 pub read-reply-is-good : (address : ℕ) (words : List ℕ) → length words ≤ 125 → isGood (readReply address words) ≡ true

@@ -1,13 +1,14 @@
 -- Stores into a reply: one byte and one word more. Assumes nothing.
-use mathlib.Core.Path.{_≡_, refl, sym, ap, _∙_}
-use mathlib.Core.List.{List, [], _∷_, _++_}
+use mathlib.Core.Path.{_≡_, sym, ap, _∙_}
+use mathlib.Core.List.{List, [], _∷_}
 use Prim.Native.Nat.{ℕ, suc, _+_, _*_, _/_, _%_, _<_}
 use native.Mathlib.Nat.{le-of-lt}
 use native.Mathlib.Numerals.{add-one}
 use native.Mathlib.Omega.{arith}
 use lib.ListN.{length, getD, take, set}
 use lib.Seq.{sets, take-suc, length-take-le}
-use Rattle.rtu.specs.Bytes.{bytesOf}
+use Rattle.words.specs.Bytes.{bytesOf}
+use Rattle.words.proofs.Bytes.{bytes-append, bytes-length}
 use Rattle.rtu.proofs.Stores.{sets-append}
 
 -- one byte more of a list
@@ -17,18 +18,6 @@ byte-more v s i h =
     sym (ap (λ (l : List ℕ). sets v 0 l) (ap (λ (k : ℕ). take k s) (add-one i) ∙ take-suc s i 0 h)
     ∙ sets-append v 0 (take i s) (getD s i 0 ∷ [])
     ∙ ap (λ (k : ℕ). set (sets v 0 (take i s)) k (getD s i 0)) n)
-
--- the bytes of two lists of words, one behind the other
-bytes-append : (xs ys : List ℕ) → bytesOf (xs ++ ys) ≡ bytesOf xs ++ bytesOf ys
-unfolding bytesOf
-bytes-append [] ys = refl
-bytes-append (x ∷ xs) ys = ap (λ (l : List ℕ). x / 256 ∷ x % 256 ∷ l) (bytes-append xs ys)
-
--- a word is two bytes
-pub bytes-length : (ws : List ℕ) → length (bytesOf ws) ≡ 2 * length ws
-unfolding bytesOf
-bytes-length [] = refl
-bytes-length (w ∷ ws) = omega (arith, bytes-length ws)
 
 -- one word more of a list, from byte 3 on
 pub word-more : (v ws : List ℕ) (i : ℕ) → i < length ws

@@ -4,7 +4,7 @@ use mathlib.Core.List.{List, [], _∷_}
 use Prim.Native.Nat.{ℕ, _*_, _/_, _%_}
 use lib.Bits.{bitOr}
 use lib.ListN.{length}
-use Rattle.rtu.specs.Bytes.{bytesOf}
+use Rattle.words.specs.Bytes.{bytesOf}
 use Rattle.rtu.specs.Frame.{framed}
 
 -- the bodies of replies, which any framing carries
@@ -18,12 +18,12 @@ unfoldable pub writeBody : ℕ → ℕ → ℕ → List ℕ
 writeBody address start count = address ∷ 16 ∷ start / 256 ∷ start % 256 ∷ count / 256 ∷ count % 256 ∷ []
 
 -- "function or 0x80": the bitwise or
-unfoldable pub marked : ℕ → ℕ
-marked function = bitOr function 0x80
+unfoldable pub markedOf : ℕ → ℕ
+markedOf function = bitOr function 0x80
 
 -- "Exception reply: address, function or 0x80, code, CRC"
 unfoldable pub exceptionBody : ℕ → ℕ → ℕ → List ℕ
-exceptionBody address function code = address ∷ marked function ∷ code ∷ []
+exceptionBody address function code = address ∷ markedOf function ∷ code ∷ []
 
 -- the replies in RTU framing
 

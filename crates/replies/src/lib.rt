@@ -3,10 +3,9 @@ ghost use mathlib.Core.Path.{_≡_};
 ghost use Prim.Native.Nat.{_+_, _*_, _≤_};
 ghost use lib.ListN.{length};
 ghost use lib.Seq.{sets};
-ghost use Rattle.rtu.specs.Bytes.{bytesOf};
+ghost use Rattle.words.specs.Bytes.{bytesOf};
 ghost use Rattle.rtu.specs.Frame.{overlay};
-ghost use Rattle.replies.specs.Reply.{marked as markedOf, readReply, echoReply, writeReply, exceptionReply};
-use rtu::bytes;
+ghost use Rattle.replies.specs.Reply.{markedOf, readReply, echoReply, writeReply, exceptionReply};
 use rtu::frame::seal;
 
 // Words from byte 3 on.
@@ -15,8 +14,8 @@ fn put_words(reply: &mut [u8], words: &[u16])
     ensures { λ _. ⌜ now (reply .exit) ≡ sets (now (reply .entry)) 3 (bytesOf (now (words .entry))) ⌝ }
 {
     for i in 0..words.len() {
-        reply[3 + 2 * i] = bytes::high(words[i]);
-        reply[4 + 2 * i] = bytes::low(words[i]);
+        reply[3 + 2 * i] = words::high(words[i]);
+        reply[4 + 2 * i] = words::low(words[i]);
     }
 }
 
@@ -62,10 +61,10 @@ pub fn put_write(reply: &mut [u8], address: u8, start: u16, count: u16) -> u16
 {
     reply[0] = address;
     reply[1] = 16;
-    reply[2] = bytes::high(start);
-    reply[3] = bytes::low(start);
-    reply[4] = bytes::high(count);
-    reply[5] = bytes::low(count);
+    reply[2] = words::high(start);
+    reply[3] = words::low(start);
+    reply[4] = words::high(count);
+    reply[5] = words::low(count);
     seal(reply, 6)
 }
 

@@ -10,7 +10,7 @@ use lib.Dec.{ltb}
 use lib.ListN.{length, take, drop, set}
 use lib.Seq.{take-suc-set, append-snoc, drop-set-lt, drop-drop}
 use Rattle.text.specs.Text.{characterAt}
-use Rattle.text.specs.Hex.{between, digitOf, pairOf, pastSpace, byteAt, decodedFrom}
+use Rattle.text.specs.Hex.{isBetween, digitOf, pairOf, pastSpace, byteAt, decodedFrom}
 
 -- a character that isn't 0 is one of the line's
 pub there : (line : List ℕ) (at : ℕ) → 0 < characterAt line at → at < length line
@@ -21,7 +21,7 @@ there (x ∷ xs) (suc at) h = omega (arith, there xs at h)
 
 -- 0 is no digit
 no-digit : (high : ℕ) → pairOf high 0 ≡ 256
-unfolding pairOf digitOf between
+unfolding pairOf digitOf isBetween
 no-digit high = go (ltb 15 (digitOf high))
   where
     go : (b : Bool) → _≡_ {A = ℕ} (cond b 256 256) 256
@@ -66,5 +66,5 @@ module _ (line : List ℕ) (at n most : ℕ) (h : n < most) where
   stored out k e = rw (went-on e, add-one n, take-suc-set out n (byteAt line (pastSpace line at)) k, append-snoc)
 
 -- what stands behind a store stays
-pub kept : (out old : List ℕ) (n v : ℕ) → drop n out ≡ drop n old → drop (n + 1) (set out n v) ≡ drop (n + 1) old
-kept out old n v e = drop-set-lt (n + 1) out n v (omega arith) ∙ sym (drop-drop 1 n out) ∙ ap (drop 1) e ∙ drop-drop 1 n old
+pub rest-kept : (out old : List ℕ) (n v : ℕ) → drop n out ≡ drop n old → drop (n + 1) (set out n v) ≡ drop (n + 1) old
+rest-kept out old n v e = drop-set-lt (n + 1) out n v (omega arith) ∙ sym (drop-drop 1 n out) ∙ ap (drop 1) e ∙ drop-drop 1 n old

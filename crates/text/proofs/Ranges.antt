@@ -5,7 +5,7 @@ use Prim.Native.Nat.{ℕ, _≤_}
 use lib.Dec.{T, leb, leb→le}
 use lib.Ieee.Fits.{and-l, and-r}
 
-pub within : (first last n : ℕ) → leb first n && leb n last ≡ true → (first ≤ n) × (n ≤ last)
-within first last n e =
-    let t : T (leb first n && leb n last) = rw e tt in
-    (leb→le first n (and-l (leb first n) (leb n last) t), leb→le n last (and-r (leb first n) (leb n last) t))
+pub within : (least most n : ℕ) → leb least n && leb n most ≡ true → (least ≤ n) × (n ≤ most)
+within least most n e =
+    let t : T (leb least n && leb n most) = rw e tt in
+    (leb→le least n (and-l (leb least n) (leb n most) t), leb→le n most (and-r (leb least n) (leb n most) t))

@@ -5,12 +5,12 @@ use Prim.Native.Nat.{ℕ, zero, suc, _+_, _-_, _*_}
 use lib.Dec.{leb, ltb, eqb}
 use Rattle.text.specs.Text.{characterAt}
 
-unfoldable pub between : ℕ → ℕ → ℕ → Bool
-between first last c = leb first c && leb c last
+unfoldable pub isBetween : ℕ → ℕ → ℕ → Bool
+isBetween least most c = leb least c && leb c most
 
 -- a digit's value: 0 to 9 from 48 on, A to F from 65 on, a to f from 97 on; any other character is 16
 unfoldable pub digitOf : ℕ → ℕ
-digitOf c = cond (between 48 57 c) (c - 48) (cond (between 65 70 c) (c - 65 + 10) (cond (between 97 102 c) (c - 97 + 10) 16))
+digitOf c = cond (isBetween 48 57 c) (c - 48) (cond (isBetween 65 70 c) (c - 65 + 10) (cond (isBetween 97 102 c) (c - 97 + 10) 16))
 
 -- the byte of two digits; 256 where they aren't two digits
 unfoldable pub pairOf : ℕ → ℕ → ℕ

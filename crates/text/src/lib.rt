@@ -52,8 +52,8 @@ pub fn character(line: &[u8], at: usize) -> u8
 pub fn is_passed_over(line: &[u8]) -> bool
     ensures { λ r. ⌜ r ≡ isPassedOver (now (line .entry)) ⌝ }
 {
-    let first = character(line, 0);
-    (first == 0) | (first == b'#')
+    let initial = character(line, 0);
+    (initial == 0) | (initial == b'#')
 }
 
 // The value of a hexadecimal digit, and 16 for any other character.

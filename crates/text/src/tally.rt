@@ -1,6 +1,6 @@
 // Comparisons, counted.
 ghost use mathlib.Core.Path.{_≡_};
-ghost use Rattle.text.specs.Tally.{up as upOf, noneTallied, tallied};
+ghost use Rattle.text.specs.Tally.{upOf, noneTallied, tallied};
 use libc::STDOUT_FILENO;
 
 // How many were compared, and how many of them differ. Each stops at the largest u64.

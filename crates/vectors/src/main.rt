@@ -15,7 +15,7 @@ fn sent(frame: &[u8]) -> u16 {
     if n < 2 {
         return 0;
     }
-    rtu::bytes::word(frame[n - 1], frame[n - 2])
+    words::word(frame[n - 1], frame[n - 2])
 }
 
 // The verdict, both checksums, and the line as it was read.

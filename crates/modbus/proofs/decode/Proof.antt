@@ -1,4 +1,4 @@
--- `modbus::decode` meets its contract: the match on the function code is the definition's chain of tests. Assumes nothing.
+-- The match on the function code is the definition's chain of tests. Assumes nothing.
 use borrow.Author.Tests.{ne-eqb}
 use Rattle.modbus.specs.Request.{requestOf}
 use borrow.Author.Needs.{needs}

@@ -1,4 +1,4 @@
--- `modbus::decode_read` meets its contract: each test of the code is the definition's. Assumes nothing.
+-- Each test of the code is the definition's. Assumes nothing.
 use borrow.Author.Tests.{eq-eqb, le-ltb, lt-ltb, ne-eqb}
 use Rattle.modbus.specs.Request.{readOf}
 use borrow.Author.Needs.{needs}

@@ -1,4 +1,4 @@
--- `modbus::decode_write_many` meets its contract: each test of the code is the definition's, and the byte count fits a usize. Assumes nothing.
+-- Each test of the code is the definition's, and the byte count fits a usize. Assumes nothing.
 use native.Mathlib.Omega.{arith}
 use borrow.Author.Tests.{eq-eqb, le-ltb, lt-ltb, ne-eqb}
 use Rattle.modbus.specs.Request.{writeManyOf}
@@ -45,7 +45,7 @@ returns-5 c =
     let e = d .before in
     let f = e .before in
     let g = f .before in
-    simp (le-ltb _ _ (g .if1 .left), ← f .word-at .ensures, ← e .word-at2 .ensures, le-ltb _ _ (d .if2 .left), le-ltb _ _ (b .if3 .left), eq-eqb _ _ (a .if4 .left), ne-eqb _ _ (c .if5 .taken))
+    simp (le-ltb _ _ (g .if1 .left), ← e .word-at2 .ensures, le-ltb _ _ (d .if2 .left), le-ltb _ _ (b .if3 .left), eq-eqb _ _ (a .if4 .left), ne-eqb _ _ (c .if5 .taken))
 
 returns-6 : tie.Need-returns-6
 unfolding writeManyOf
@@ -58,7 +58,21 @@ returns-6 c =
     let g = f .before in
     let h = g .before in
     let i = h .before in
-    simp (le-ltb _ _ (i .if1 .left), ← h .word-at .ensures, ← g .word-at2 .ensures, le-ltb _ _ (f .if2 .left), le-ltb _ _ (e .if3 .left), eq-eqb _ _ (d .if4 .left), eq-eqb _ _ (b .if5 .left), ← a .word-at3 .ensures, ← c .second-word .ensures)
+    simp (le-ltb _ _ (i .if1 .left), ← h .word-at .ensures, ← g .word-at2 .ensures, le-ltb _ _ (f .if2 .left), le-ltb _ _ (e .if3 .left), eq-eqb _ _ (d .if4 .left), eq-eqb _ _ (b .if5 .left), ← a .word-at3 .ensures, lt-ltb _ _ (c .if6 .taken))
+
+returns-7 : tie.Need-returns-7
+unfolding writeManyOf
+returns-7 c =
+    let a = c .before in
+    let b = a .before in
+    let d = b .before in
+    let e = d .before in
+    let f = e .before .before in
+    let g = f .before in
+    let h = g .before in
+    let i = h .before in
+    let j = i .before in
+    simp (le-ltb _ _ (j .if1 .left), ← i .word-at .ensures, ← h .word-at2 .ensures, le-ltb _ _ (g .if2 .left), le-ltb _ _ (f .if3 .left), eq-eqb _ _ (e .if4 .left), eq-eqb _ _ (d .if5 .left), ← b .word-at3 .ensures, le-ltb _ _ (a .if6 .left), ← c .word-at4 .ensures)
 
 pub decode-write-many-spec : {M : Type 1} → statement M
 decode-write-many-spec =
@@ -77,5 +91,6 @@ decode-write-many-spec =
     (λ c. search needs)
     returns-5
     (λ c κs. search needs)
+    returns-6
     (λ c κs. search needs)
-    returns-6)
+    returns-7)

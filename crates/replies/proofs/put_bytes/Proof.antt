@@ -1,4 +1,4 @@
--- `replies::put_bytes` meets its contract: after i turns the first i bytes are stored. Assumes nothing.
+-- After i turns of the loop the first i bytes are stored. Assumes nothing.
 use borrow.Author.Needs.{needs}
 use mathlib.Core.Path.{_≡_, refl}
 use Prim.Native.Nat.{_≤_, _-_}

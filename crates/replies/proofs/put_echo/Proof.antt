@@ -1,4 +1,4 @@
--- `replies::put_echo` meets its contract: the request's bytes are the body's stores, and the seal makes the frame. Assumes nothing.
+-- The request's bytes are the body's stores, and the seal makes the frame. Assumes nothing.
 use mathlib.Core.Path.{refl, sym, _∙_}
 use lib.ListN.{length}
 use Rattle.replies.specs.Reply.{echoReply}

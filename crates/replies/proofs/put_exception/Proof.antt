@@ -1,6 +1,6 @@
--- `replies::put_exception` meets its contract: three stores make the body, and the seal makes the frame. Assumes nothing.
+-- Three stores make the body, and the seal makes the frame. Assumes nothing.
 use mathlib.Core.List.{[], _∷_}
-use Rattle.replies.specs.Reply.{exceptionReply, exceptionBody, marked}
+use Rattle.replies.specs.Reply.{exceptionReply, exceptionBody, markedOf}
 use Rattle.rtu.proofs.Stores.{framed-length, sealed}
 use native.Mathlib.Omega.{arith}
 use mathlib.Core.Path.{refl, sym, _∙_}
@@ -26,7 +26,7 @@ unfolding exceptionReply exceptionBody
 returns c =
     let s = c .before .before in
     let a = s .before .before .before .before .args in
-    let b = a .address ∷ marked (a .function) ∷ a .code ∷ [] in
+    let b = a .address ∷ markedOf (a .function) ∷ a .code ∷ [] in
     (s .seal .ensures .0 ∙ sym (framed-length b), s .seal .ensures .1 ∙ rw (s .before .before .marked .ensures) (sealed (a .reply .now) b 3 refl (search needs)))
 
 pub put-exception-spec : {M : Type 1} → statement M

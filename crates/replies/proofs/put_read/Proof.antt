@@ -1,11 +1,11 @@
--- `replies::put_read` meets its contract: the three header bytes and the words are the body's stores, and the seal makes the frame. Assumes nothing.
+-- The three header bytes and the words are the body's stores, and the seal makes the frame. Assumes nothing.
 use mathlib.Core.Path.{_≡_, _∙_}
 use Prim.Native.Nat.{_+_, _*_}
 use native.Mathlib.Omega.{arith}
 use lib.ListN.{length, length-set}
 use Rattle.replies.specs.Reply.{readReply, readBody}
 use Rattle.rtu.proofs.Stores.{framed-length, sealed}
-use Rattle.replies.proofs.Stores.{bytes-length}
+use Rattle.words.proofs.Bytes.{bytes-length}
 use borrow.Author.Needs.{needs}
 use Rattle.replies.proofs.put_read.Statement.{statement}
 use Rattle.replies.proofs.put_read.Tie as tie

@@ -1,11 +1,11 @@
--- `replies::put_words` meets its contract: after i turns the bytes of the first i words are stored. Assumes nothing.
+-- After i turns of the loop the bytes of the first i words are stored. Assumes nothing.
 use borrow.Author.Needs.{needs}
 use mathlib.Core.Path.{_≡_, refl}
 use Prim.Native.Nat.{_≤_, _-_}
 use native.Mathlib.Omega.{arith}
 use lib.ListN.{length, length-set, take}
 use lib.Seq.{sets, take-length}
-use Rattle.rtu.specs.Bytes.{bytesOf}
+use Rattle.words.specs.Bytes.{bytesOf}
 use Rattle.replies.proofs.Stores.{word-more}
 use Rattle.replies.proofs.put_words.Statement.{statement}
 use Rattle.replies.proofs.put_words.Tie as tie

@@ -1,4 +1,4 @@
--- `replies::put_write` meets its contract: six stores make the body, and the seal makes the frame. Assumes nothing.
+-- Six stores make the body, and the seal makes the frame. Assumes nothing.
 use mathlib.Core.List.{[], _∷_}
 use Prim.Native.Nat.{_/_, _%_}
 use Rattle.replies.specs.Reply.{writeReply, writeBody}

@@ -1,4 +1,4 @@
--- `text::character` meets its contract: past the end the definition reads 0. Assumes nothing.
+-- Past the end the definition reads 0. Assumes nothing.
 use native.Mathlib.Omega.{arith}
 use mathlib.Core.Path.{sym}
 use lib.ListN.{List·getD-eq-default}

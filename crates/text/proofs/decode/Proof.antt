@@ -1,4 +1,4 @@
--- `text::decode` meets its contract. The loop's invariant: the bytes stored and those that are left in the line are the line's bytes. Assumes nothing.
+-- The bytes stored and those that are left in the line are the line's bytes, at every turn of the loop. Assumes nothing.
 use native.Mathlib.Omega.{arith}
 use mathlib.Core.Path.{_≡_, refl, sym, _∙_}
 use mathlib.Core.List.{_++_, append-nil}
@@ -7,7 +7,7 @@ use lib.ListN.{length, take, drop, length-set}
 use lib.Seq.{length-take-le}
 use borrow.Author.Needs.{needs}
 use Rattle.text.specs.Hex.{pastSpace, decodedFrom, decodedOf}
-use Rattle.text.proofs.Decoded.{within-line, byte-is, ended, stored, kept}
+use Rattle.text.proofs.Decoded.{within-line, byte-is, ended, stored, rest-kept}
 use Rattle.text.proofs.decode.Statement.{statement}
 use Rattle.text.proofs.decode.Tie as tie
 
@@ -49,7 +49,7 @@ loop-again c =
       omega (arith, within-line (args .line .now) (pastSpace (args .line .now) (at .at)) h),
       simp length-set (at .inv .2),
       rw (b, p .past-space .ensures .0) (stored (args .line .now) (at .at) (at .n) (length (args .out .now)) (omega arith) (at .out) (omega arith) h ∙ at .inv .3),
-      kept (at .out) (args .out .now) (at .n) _ (at .inv .4),
+      rest-kept (at .out) (args .out .now) (at .n) _ (at .inv .4),
     )
 
 returns-2 : tie.Need-returns-2 Inv-loop μ-loop

@@ -1,8 +1,8 @@
--- `text::digit` meets its contract: the three tests are those of the definition. Assumes nothing.
+-- The three tests are those of the definition. Assumes nothing.
 use native.Mathlib.Omega.{arith}
 use borrow.Author.Needs.{needs}
 use Rattle.text.proofs.Ranges.{within}
-use Rattle.text.specs.Hex.{between, digitOf}
+use Rattle.text.specs.Hex.{isBetween, digitOf}
 use Rattle.text.proofs.digit.Statement.{statement}
 use Rattle.text.proofs.digit.Tie as tie
 
@@ -10,7 +10,7 @@ sub-result : tie.Need-sub-result
 sub-result c = omega (arith, within 48 57 (c .before .args .c) (c .if1 .taken))
 
 returns : tie.Need-returns
-unfolding digitOf between
+unfolding digitOf isBetween
 returns c = (simp (c .if1 .taken), omega (arith, within 48 57 (c .before .args .c) (c .if1 .taken)))
 
 sub-result-2 : tie.Need-sub-result-2
@@ -20,7 +20,7 @@ add-result : tie.Need-add-result
 add-result c = search needs
 
 returns-2 : tie.Need-returns-2
-unfolding digitOf between
+unfolding digitOf isBetween
 returns-2 c = (simp (c .before .if1 .left, c .if2 .taken), omega (arith, within 65 70 (c .before .before .args .c) (c .if2 .taken)))
 
 sub-result-3 : tie.Need-sub-result-3
@@ -30,11 +30,11 @@ add-result-2 : tie.Need-add-result-2
 add-result-2 c = search needs
 
 returns-3 : tie.Need-returns-3
-unfolding digitOf between
+unfolding digitOf isBetween
 returns-3 c = (simp (c .before .before .if1 .left, c .before .if2 .left, c .if3 .taken), omega (arith, within 97 102 (c .before .before .before .args .c) (c .if3 .taken)))
 
 returns-4 : tie.Need-returns-4
-unfolding digitOf between
+unfolding digitOf isBetween
 returns-4 c = simp (c .before .before .if1 .left, c .before .if2 .left, c .if3 .left) (omega arith)
 
 pub digit-spec : {M : Type 1} → statement M

@@ -1,4 +1,4 @@
--- `text::find` meets its contract: from where the loop stands, the search finds what it finds from the place. Assumes nothing.
+-- From where the loop stands, the search finds what it finds from the place. Assumes nothing.
 use native.Mathlib.Omega.{arith}
 use mathlib.Core.Path.{_≡_, refl, sym, _∙_}
 use Prim.Native.Nat.{_+_, _≤_, _-_}

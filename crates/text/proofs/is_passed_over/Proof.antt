@@ -1,4 +1,4 @@
--- `text::is_passed_over` meets its contract. Assumes nothing.
+-- Assumes nothing.
 use Rattle.text.specs.Text.{isPassedOver}
 use borrow.Author.Needs.{needs}
 use Rattle.text.proofs.is_passed_over.Statement.{statement}

@@ -1,4 +1,4 @@
--- `text::pair` meets its contract. Assumes nothing.
+-- The tests on the two digits are the definition's. Assumes nothing.
 use native.Mathlib.Omega.{arith}
 use borrow.Author.Tests.{le-ltb, lt-ltb}
 use Rattle.text.specs.Hex.{pairOf}

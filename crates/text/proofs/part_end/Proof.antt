@@ -1,4 +1,4 @@
--- `text::part_end` meets its contract: from where the loop stands, the part ends where it ends from the place. Assumes nothing.
+-- From where the loop stands, the part ends where it ends from the place. Assumes nothing.
 use native.Mathlib.Omega.{arith}
 use mathlib.Core.Path.{_≡_, refl, sym, _∙_}
 use Prim.Native.Nat.{_+_, _≤_, _-_}

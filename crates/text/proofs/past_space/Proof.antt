@@ -1,4 +1,4 @@
--- `text::past_space` meets its contract: a space is one of the line's characters, so the next place is a number. Assumes nothing.
+-- A space is one of the line's characters, so the next place is a number. Assumes nothing.
 use native.Mathlib.Omega.{arith}
 use borrow.Author.Needs.{needs}
 use borrow.Author.Tests.{eq-eqb, ne-eqb}

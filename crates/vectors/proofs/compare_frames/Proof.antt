@@ -1,4 +1,4 @@
--- `vectors::compare_frames` is safe and ends: a line begins at most one past the end. Assumes nothing.
+-- It is safe and ends: a line begins at most one past the end. Assumes nothing.
 use borrow.Author.Needs.{needs}
 use Prim.Native.Nat.{_≤_, _+_, _-_}
 use lib.ListN.{length}

@@ -1,4 +1,4 @@
--- `vectors::pattern` meets its contract: the stores leave the 256 bytes that there were. Assumes nothing.
+-- The stores leave the 256 bytes that there were. Assumes nothing.
 use borrow.Author.Needs.{needs}
 use Prim.Native.Nat.{_≤_, _-_}
 use mathlib.Core.Path.{_≡_}

@@ -1,4 +1,4 @@
--- `vectors::sweep_bytes` is safe and ends: every byte is passed once. Assumes nothing.
+-- It is safe and ends: every byte is passed once. Assumes nothing.
 use borrow.Author.Needs.{needs}
 use Prim.Native.Nat.{_≤_, _-_}
 use Rattle.vectors.proofs.sweep_bytes.Statement.{statement}

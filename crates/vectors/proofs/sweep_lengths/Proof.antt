@@ -1,4 +1,4 @@
--- `vectors::sweep_lengths` is safe and ends: no length is past the pattern. Assumes nothing.
+-- It is safe and ends: no length is past the pattern. Assumes nothing.
 use native.Mathlib.Omega.{arith}
 use lib.Seq.{length-take-le}
 use borrow.Author.Needs.{needs}

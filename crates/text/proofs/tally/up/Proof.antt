@@ -1,17 +1,17 @@
--- `text::tally::up` meets its contract. Assumes nothing.
+-- The test is the definition's. Assumes nothing.
 use native.Mathlib.Omega.{arith}
 use borrow.Author.Tests.{le-ltb, lt-ltb}
-use Rattle.text.specs.Tally.{up}
+use Rattle.text.specs.Tally.{upOf}
 use borrow.Author.Needs.{needs}
 use Rattle.text.proofs.tally.up.Statement.{statement}
 use Rattle.text.proofs.tally.up.Tie as tie
 
 returns : tie.Need-returns
-unfolding up
+unfolding upOf
 returns c = simp (lt-ltb _ _ (c .if1 .taken)) (omega arith)
 
 returns-2 : tie.Need-returns-2
-unfolding up
+unfolding upOf
 returns-2 c = simp (le-ltb _ _ (c .if1 .left))
 
 pub up-spec : {M : Type 1} → statement M

@@ -1,4 +1,4 @@
--- `vectors::table::crc16` is safe and ends: the index stays within the bytes. Assumes nothing.
+-- It is safe and ends: the index stays within the bytes. Assumes nothing.
 use borrow.Author.Needs.{needs}
 use Prim.Native.Nat.{_≤_, _-_}
 use mathlib.Core.Path.{_≡_}

@@ -1,4 +1,4 @@
--- `text::tally::Tally::none` meets its contract. Assumes nothing.
+-- Assumes nothing.
 use borrow.Author.Needs.{needs}
 use Rattle.text.specs.Tally.{noneTallied}
 use Rattle.text.proofs.tally.Tally.none.Statement.{statement}

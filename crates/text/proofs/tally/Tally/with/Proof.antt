@@ -1,4 +1,4 @@
--- `text::tally::Tally::with` meets its contract. Assumes nothing.
+-- Each branch on `agrees` is the definition's. Assumes nothing.
 use Rattle.text.specs.Tally.{tallied}
 use borrow.Author.Needs.{needs}
 use Rattle.text.proofs.tally.Tally.with.Statement.{statement}
