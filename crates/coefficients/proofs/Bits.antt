@@ -13,34 +13,34 @@ use Rattle.coefficients.specs.declared.Calibration.{Calibration}
 
 -- coefficients each of which is finite
 pub record CoefficientsFinite (c : Coefficients) : Type 0 where
-  pub finite-first : T (finite (c .first))
-  pub finite-second : T (finite (c .second))
-  pub finite-third : T (finite (c .third))
+  pub finite-coefficient1 : T (finite (c .coefficient1))
+  pub finite-coefficient2 : T (finite (c .coefficient2))
+  pub finite-coefficient3 : T (finite (c .coefficient3))
 
 -- finite coefficients are finite each
 pub each-finite : (c : Coefficients) → allFinite c ≡ true → CoefficientsFinite c
 unfolding allFinite
 each-finite c e =
-    let t = both (finite (c .first) && finite (c .second)) (finite (c .third)) e in
-    let u = both (finite (c .first)) (finite (c .second)) (t .0) in
-    record { finite-first = rw (u .0) tt; finite-second = rw (u .1) tt; finite-third = rw (t .1) tt }
+    let t = both (finite (c .coefficient1) && finite (c .coefficient2)) (finite (c .coefficient3)) e in
+    let u = both (finite (c .coefficient1)) (finite (c .coefficient2)) (t .0) in
+    record { finite-coefficient1 = rw (u .0) tt; finite-coefficient2 = rw (u .1) tt; finite-coefficient3 = rw (t .1) tt }
 
 -- coefficients that fit the format
 pub record CoefficientsFit (c : Coefficients) : Type 0 where
-  pub fits-first : T (fits binary32 (c .first))
-  pub fits-second : T (fits binary32 (c .second))
-  pub fits-third : T (fits binary32 (c .third))
+  pub fits-coefficient1 : T (fits binary32 (c .coefficient1))
+  pub fits-coefficient2 : T (fits binary32 (c .coefficient2))
+  pub fits-coefficient3 : T (fits binary32 (c .coefficient3))
 
 -- coefficients with the same bits are the same
 pub same-coefficients : (c d : Coefficients) → CoefficientsFit c → CoefficientsFit d → sameCoefficients c d ≡ true → c ≡ d
 unfolding sameCoefficients
 same-coefficients c d fc fd e =
-    let t = both (sameBits (c .first) (d .first) && sameBits (c .second) (d .second)) (sameBits (c .third) (d .third)) e in
-    let u = both (sameBits (c .first) (d .first)) (sameBits (c .second) (d .second)) (t .0) in
-    let x : c .first ≡ d .first = same-bits (c .first) (d .first) (fc .fits-first) (fd .fits-first) (u .0) in
-    let y : c .second ≡ d .second = same-bits (c .second) (d .second) (fc .fits-second) (fd .fits-second) (u .1) in
-    let z : c .third ≡ d .third = same-bits (c .third) (d .third) (fc .fits-third) (fd .fits-third) (t .1) in
-    let k : coefficients (c .first) (c .second) (c .third) ≡ coefficients (d .first) (d .second) (d .third) = cc in
+    let t = both (sameBits (c .coefficient1) (d .coefficient1) && sameBits (c .coefficient2) (d .coefficient2)) (sameBits (c .coefficient3) (d .coefficient3)) e in
+    let u = both (sameBits (c .coefficient1) (d .coefficient1)) (sameBits (c .coefficient2) (d .coefficient2)) (t .0) in
+    let x : c .coefficient1 ≡ d .coefficient1 = same-bits (c .coefficient1) (d .coefficient1) (fc .fits-coefficient1) (fd .fits-coefficient1) (u .0) in
+    let y : c .coefficient2 ≡ d .coefficient2 = same-bits (c .coefficient2) (d .coefficient2) (fc .fits-coefficient2) (fd .fits-coefficient2) (u .1) in
+    let z : c .coefficient3 ≡ d .coefficient3 = same-bits (c .coefficient3) (d .coefficient3) (fc .fits-coefficient3) (fd .fits-coefficient3) (t .1) in
+    let k : coefficients (c .coefficient1) (c .coefficient2) (c .coefficient3) ≡ coefficients (d .coefficient1) (d .coefficient2) (d .coefficient3) = cc in
     k
 
 -- coefficients have their own bits

@@ -9,7 +9,7 @@ use lib.Ieee.{Float, nan, inf, fin, binary32, round, ofBits, toBits, le}
 use lib.Ieee.Bits.{ofBits-fits}
 use lib.Ieee.Fits.{round-fits}
 use borrow.Author.Tests.{eqb-true}
-use Rattle.floats.specs.Floats.{near, minus, plusZero, finite, isPlusZero, within}
+use Rattle.floats.specs.Floats.{near, nearMinus, plusZero, finite, isPlusZero, within}
 use Rattle.coefficients.specs.Coefficients.{coefficients, allFinite, defaultsOf, inLimits}
 use Rattle.coefficients.specs.declared.Coefficients.{Coefficients}
 use Rattle.floats.proofs.Bools.{no, both, by-number}
@@ -45,11 +45,11 @@ row-finite x y z p q r f g h e =
 
 -- coefficients in limits are finite
 pub limits-finite : (s : ℕ) (c : Coefficients) → inLimits s c ≡ true → allFinite c ≡ true
-unfolding inLimits allFinite near minus round
+unfolding inLimits allFinite near nearMinus round
 limits-finite s c =
-    let x = c .first in
-    let y = c .second in
-    let z = c .third in
+    let x = c .coefficient1 in
+    let y = c .coefficient2 in
+    let z = c .coefficient3 in
     by-row s _ _ _ _
     (λ n. row-finite x y z _ _ _ (within-finite _ _ _ _ _ _ x) (within-finite _ _ _ _ _ _ y) (zero-finite z))
     (λ n. row-finite x y z _ _ _ (within-finite _ _ _ _ _ _ x) (within-finite _ _ _ _ _ _ y) (zero-finite z))
@@ -61,19 +61,19 @@ pub only-sensors : (s : ℕ) (c : Coefficients) → inLimits s c ≡ true → (1
 unfolding inLimits
 only-sensors s c = by-row s _ _ _ _ (λ n h. omega arith) (λ n h. omega arith) (λ n h. omega arith) (λ n h. omega arith)
 
-row-third : (a b d e : Float) (c : Coefficients) → (within a b (c .first) && within d e (c .second) && isPlusZero (c .third)) ≡ true → isPlusZero (c .third) ≡ true
-row-third a b d e c h = both (within a b (c .first) && within d e (c .second)) (isPlusZero (c .third)) h .1
+row-coefficient3 : (a b d e : Float) (c : Coefficients) → (within a b (c .coefficient1) && within d e (c .coefficient2) && isPlusZero (c .coefficient3)) ≡ true → isPlusZero (c .coefficient3) ≡ true
+row-coefficient3 a b d e c h = both (within a b (c .coefficient1) && within d e (c .coefficient2)) (isPlusZero (c .coefficient3)) h .1
 
 -- on a sensor other than 3 the third coefficient in limits is +0.0 in every bit
-pub third-is-zero : (s : ℕ) (c : Coefficients) → (s ≡ 3 → ⊥) → inLimits s c ≡ true → isPlusZero (c .third) ≡ true
+pub coefficient3-is-zero : (s : ℕ) (c : Coefficients) → (s ≡ 3 → ⊥) → inLimits s c ≡ true → isPlusZero (c .coefficient3) ≡ true
 unfolding inLimits
-third-is-zero s c other =
-    by-row s _ _ _ _ (λ n. row-third _ _ _ _ c) (λ n. row-third _ _ _ _ c) (λ n h. absurd (other n)) (λ n. row-third _ _ _ _ c)
+coefficient3-is-zero s c other =
+    by-row s _ _ _ _ (λ n. row-coefficient3 _ _ _ _ c) (λ n. row-coefficient3 _ _ _ _ c) (λ n h. absurd (other n)) (λ n. row-coefficient3 _ _ _ _ c)
 
 -- so its bits are 0
-pub third-bits : (s : ℕ) (c : Coefficients) → (s ≡ 3 → ⊥) → inLimits s c ≡ true → toBits binary32 (c .third) ≡ 0
+pub coefficient3-bits : (s : ℕ) (c : Coefficients) → (s ≡ 3 → ⊥) → inLimits s c ≡ true → toBits binary32 (c .coefficient3) ≡ 0
 unfolding isPlusZero
-third-bits s c other h = eqb-true (toBits binary32 (c .third)) 0 (third-is-zero s c other h)
+coefficient3-bits s c other h = eqb-true (toBits binary32 (c .coefficient3)) 0 (coefficient3-is-zero s c other h)
 
 -- what holds of each of the four sensors holds of a sensor
 pub sensor-cases : (P : ℕ → Type 0) → P 1 → P 2 → P 3 → P 4 → (s : ℕ) → 1 ≤ s → s ≤ 4 → P s
@@ -86,7 +86,7 @@ sensor-cases P a b c d (suc (suc (suc (suc (suc s))))) l h = absurd (omega arith
 
 -- each sensor's defaults are in its limits
 pub defaults-in-limits : (s : ℕ) → 1 ≤ s → s ≤ 4 → inLimits s (defaultsOf s) ≡ true
-unfolding inLimits defaultsOf near minus round ofBits le isPlusZero toBits
+unfolding inLimits defaultsOf near nearMinus round ofBits le isPlusZero toBits
 defaults-in-limits = sensor-cases (λ s. inLimits s (defaultsOf s) ≡ true) refl refl refl refl
 
 -- the defaults fit the format
@@ -95,5 +95,5 @@ unfolding defaultsOf near
 defaults-fit s = go (eqb s 3)
   where
     go : (b : Bool) → CoefficientsFit (cond b (coefficients plusZero plusZero plusZero) (coefficients plusZero (near 1 1) plusZero))
-    go true = record { fits-first = ofBits-fits binary32 0; fits-second = ofBits-fits binary32 0; fits-third = ofBits-fits binary32 0 }
-    go false = record { fits-first = ofBits-fits binary32 0; fits-second = round-fits binary32 false 1 1; fits-third = ofBits-fits binary32 0 }
+    go true = record { fits-coefficient1 = ofBits-fits binary32 0; fits-coefficient2 = ofBits-fits binary32 0; fits-coefficient3 = ofBits-fits binary32 0 }
+    go false = record { fits-coefficient1 = ofBits-fits binary32 0; fits-coefficient2 = round-fits binary32 false 1 1; fits-coefficient3 = ofBits-fits binary32 0 }

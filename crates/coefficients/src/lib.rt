@@ -6,17 +6,17 @@ ghost use Rattle.coefficients.specs.Coefficients.{allFinite, sameCoeffic
 // Document 01: figures 1, 2 and 3.
 #[repr(C)]
 pub struct Coefficients {
-    pub first: f32,
-    pub second: f32,
-    pub third: f32,
+    pub coefficient1: f32,
+    pub coefficient2: f32,
+    pub coefficient3: f32,
 }
 
 // Coefficients with the time of their calibration. Document 01: figures in force with last calibration.
 #[repr(C)]
 pub struct Calibration {
-    pub first: f32,
-    pub second: f32,
-    pub third: f32,
+    pub coefficient1: f32,
+    pub coefficient2: f32,
+    pub coefficient3: f32,
     pub time: u32,
 }
 
@@ -27,33 +27,33 @@ impl Coefficients {
     {
         if sensor == 3 {
             return Coefficients {
-                first: 0.0,
-                second: 0.0,
-                third: 0.0,
+                coefficient1: 0.0,
+                coefficient2: 0.0,
+                coefficient3: 0.0,
             };
         }
         Coefficients {
-            first: 0.0,
-            second: 1.0,
-            third: 0.0,
+            coefficient1: 0.0,
+            coefficient2: 1.0,
+            coefficient3: 0.0,
         }
     }
 
     pub fn is_finite(self) -> bool
         ensures { λ r. ⌜ r ≡ allFinite self ⌝ }
     {
-        floats::is_finite(self.first)
-            & floats::is_finite(self.second)
-            & floats::is_finite(self.third)
+        floats::is_finite(self.coefficient1)
+            & floats::is_finite(self.coefficient2)
+            & floats::is_finite(self.coefficient3)
     }
 
     // Equality in every bit.
     pub fn same_bits(self, other: Coefficients) -> bool
         ensures { λ r. ⌜ r ≡ sameCoefficients self other ⌝ }
     {
-        floats::same_bits(self.first, other.first)
-            & floats::same_bits(self.second, other.second)
-            & floats::same_bits(self.third, other.third)
+        floats::same_bits(self.coefficient1, other.coefficient1)
+            & floats::same_bits(self.coefficient2, other.coefficient2)
+            & floats::same_bits(self.coefficient3, other.coefficient3)
     }
 
     // These coefficients, calibrated at a time.
@@ -61,9 +61,9 @@ impl Coefficients {
         ensures { λ r. ⌜ r ≡ calibrationOf self time ⌝ }
     {
         Calibration {
-            first: self.first,
-            second: self.second,
-            third: self.third,
+            coefficient1: self.coefficient1,
+            coefficient2: self.coefficient2,
+            coefficient3: self.coefficient3,
             time,
         }
     }
@@ -74,9 +74,9 @@ impl Calibration {
         ensures { λ r. ⌜ r ≡ coefficientsOf self ⌝ }
     {
         Coefficients {
-            first: self.first,
-            second: self.second,
-            third: self.third,
+            coefficient1: self.coefficient1,
+            coefficient2: self.coefficient2,
+            coefficient3: self.coefficient3,
         }
     }
 
@@ -101,18 +101,18 @@ pub fn in_limits(sensor: u16, c: Coefficients) -> bool
     ensures { λ r. ⌜ r ≡ inLimits sensor c ⌝ }
 {
     match sensor {
-        1 => within(-100.0, 100.0, c.first)
-            & within(0.25, 4.0, c.second)
-            & floats::is_plus_zero(c.third),
-        2 => within(-0.2, 0.2, c.first)
-            & within(0.85, 1.20, c.second)
-            & floats::is_plus_zero(c.third),
-        3 => within(-10.0, 10.0, c.first)
-            & within(-10000.0, 10000.0, c.second)
-            & within(-10.0, 2000.0, c.third),
-        4 => within(-100.0, 100.0, c.first)
-            & within(0.125, 8.0, c.second)
-            & floats::is_plus_zero(c.third),
+        1 => within(-100.0, 100.0, c.coefficient1)
+            & within(0.25, 4.0, c.coefficient2)
+            & floats::is_plus_zero(c.coefficient3),
+        2 => within(-0.2, 0.2, c.coefficient1)
+            & within(0.85, 1.20, c.coefficient2)
+            & floats::is_plus_zero(c.coefficient3),
+        3 => within(-10.0, 10.0, c.coefficient1)
+            & within(-10000.0, 10000.0, c.coefficient2)
+            & within(-10.0, 2000.0, c.coefficient3),
+        4 => within(-100.0, 100.0, c.coefficient1)
+            & within(0.125, 8.0, c.coefficient2)
+            & floats::is_plus_zero(c.coefficient3),
         _ => false,
     }
 }

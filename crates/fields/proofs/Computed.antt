@@ -1,5 +1,5 @@
--- What a computed test over the numbers below a bound or over a list of rows says of each, and of the row that a search finds. Assumes
--- nothing.
+-- A test that is computed over all numbers below a bound, or over all rows, holds of each of them, and so of the row that a search finds.
+-- Assumes nothing.
 use mathlib.Core.Path.{_≡_, refl, ap}
 use mathlib.Core.Bool.{Bool, true, false, _&&_, _||_, not, cond, false≢true}
 use mathlib.Core.List.{List, [], _∷_}

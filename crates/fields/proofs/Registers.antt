@@ -1,5 +1,5 @@
--- The field of a register: what every row says, the registers that have one are those of the map, and the registers of a whole field are its
--- own. Assumes nothing.
+-- The field of a register has what every row has, the registers that have one are those of the map, and each register of a whole field finds
+-- that field: all by tests computed over the rows or the 500 registers. Assumes nothing.
 use mathlib.Core.Path.{_≡_, refl, sym, ap, _∙_}
 use mathlib.Core.Bool.{Bool, true, false, Bool·beq, _&&_, _||_, not, false≢true}
 use Prim.Native.Nat.{ℕ, _+_, _*_, _/_, _%_, _<_, _≤_}
@@ -12,7 +12,7 @@ use Rattle.floats.proofs.Bools.{both, beq-true}
 use Rattle.fields.specs.declared.Field.{Field}
 use Rattle.fields.specs.Fields.{Found}
 use Rattle.fields.specs.Fields.Found.{Row, Absent}
-use Rattle.fields.specs.Fields.{field, fields, ownerBit, owns, holds, exactly, fieldAt, found, whole}
+use Rattle.fields.specs.Fields.{field, fields, ownerBit, owns, holds, exactly, fieldAt, found, wholeField}
 use Rattle.fields.specs.Map.{inMap}
 use Rattle.fields.proofs.Computed.{given, every, below, at-number, everywhere, first-passes, also-found, none-found}
 
@@ -174,9 +174,9 @@ module _ (start count : ℕ) (f : Field) where
       let r : start + i ≡ 100 * (start / 100) + (f .offset + i) = omega arith in
       rw r (own-register f (start / 100) i s (p .owned) (omega arith))
 
-  module _ (e : whole start count ≡ Row f) where
+  module _ (e : wholeField start count ≡ Row f) where
     passed : (t : Field → Bool) → every t fields ≡ true → (exactly f (start / 100) (start % 100) count ≡ true) × (t f ≡ true)
-    unfolding whole
+    unfolding wholeField
     passed t h = first-passes (λ g. exactly g (start / 100) (start % 100) count) t fields h f e
 
     -- the registers of a whole field are its own
@@ -191,15 +191,15 @@ module _ (start count : ℕ) (f : Field) where
         record { field = rw add-zero at (whole-registers 0 (omega arith)); begins = p .begins; all = p .all }
 
 -- and the other way round
-pub row-whole : (start count : ℕ) (f : Field) → Exact start count f → whole start count ≡ Row f
-unfolding whole fieldAt exactly
+pub row-whole : (start count : ℕ) (f : Field) → Exact start count f → wholeField start count ≡ Row f
+unfolding wholeField fieldAt exactly
 row-whole start count f x =
-    go (whole start count) refl
+    go (wholeField start count) refl
     (also-found (λ g. holds g (start / 100) (start % 100)) (λ g. exactly g (start / 100) (start % 100) count) fields f (x .field) is)
   where
     is : exactly f (start / 100) (start % 100) count ≡ true
     is = rw (found-covered start f (x .field) .owned, eq-eqb (f .offset) (start % 100) (x .begins), eq-eqb (f .words) count (x .all))
 
-    go : (y : Found) → whole start count ≡ y → found y ≡ true → y ≡ Row f
+    go : (y : Found) → wholeField start count ≡ y → found y ≡ true → y ≡ Row f
     go Absent q e = absurd (false≢true e)
     go (Row g) q e = sym (whole-row start count g q .field) ∙ x .field

@@ -11,7 +11,7 @@ use borrow.Author.Tests.{eqb-true, eq-eqb, leb-true, ltb-true, ltb-false, le-leb
 use Rattle.floats.proofs.Bools.{both}
 use Rattle.fields.specs.declared.Field.{Field}
 use Rattle.fields.specs.Fields.Found.{Row}
-use Rattle.fields.specs.Fields.{fields, ownerBit, owns, holds, fieldAt, found, allFound, whole}
+use Rattle.fields.specs.Fields.{fields, ownerBit, owns, holds, fieldAt, found, allFound, wholeField}
 use Rattle.fields.proofs.Computed.{every, below, at-number, everywhere}
 use Rattle.fields.proofs.Registers.{Shape, shaped, shape, every-shaped, unheld, past, held-parts, found-inside, whole-registers}
 
@@ -148,7 +148,7 @@ all-found-ends start count e h = go (ltb start 500) refl
     go false q = absurd (false≢true (sym (ap found (past start (ltb-false start 500 q))) ∙ rw add-zero at (all-found-at start count 0 e h)))
 
 -- the registers of a whole field exist
-pub whole-found : (start count : ℕ) (f : Field) → whole start count ≡ Row f → allFound start count ≡ true
+pub whole-found : (start count : ℕ) (f : Field) → wholeField start count ≡ Row f → allFound start count ≡ true
 whole-found start count f e = all start count (λ i h. ap found (whole-registers start count f e i h))
   where
     all : (r n : ℕ) → ((i : ℕ) → i < n → found (fieldAt (r + i)) ≡ true) → allFound r n ≡ true

@@ -1,4 +1,5 @@
--- The search of the table, row by row from an index on. Assumes nothing.
+-- A search from a row on is a test of that row and the search from the next; it may begin at row offset / 2, since no row has more than two
+-- words. Assumes nothing.
 use mathlib.Core.Path.{_≡_, refl}
 use mathlib.Core.Bool.{Bool, true, false, not, and-false}
 use mathlib.Core.List.{List, [], _∷_}
@@ -12,7 +13,7 @@ use lib.Seq.{drop-cons}
 use borrow.Author.Tests.{ltb-true, ne-eqb, not-true}
 use Rattle.floats.proofs.Bools.{both}
 use Rattle.fields.specs.declared.Field.{Field}
-use Rattle.fields.specs.Fields.{field, fields, exactly, firstOf, whole}
+use Rattle.fields.specs.Fields.{field, fields, exactly, firstOf, wholeField}
 use Rattle.fields.specs.Fields.Found.{Row}
 use Rattle.fields.proofs.Computed.{every}
 use Rattle.fields.proofs.Registers.{Shape, shaped, shape, every-shaped}
@@ -66,8 +67,8 @@ elsewhere owner o count (f ∷ fs) e =
     rw (ne-eqb (f .offset) o (λ q. omega arith), and-false) (elsewhere owner o count fs (p .1))
 
 -- the search for a whole field may begin at row offset / 2
-pub whole-begins : (start count : ℕ) → whole start count ≡ firstOf (λ f. exactly f (start / 100) (start % 100) count) (drop (start % 100 / 2) fields)
-unfolding whole
+pub whole-begins : (start count : ℕ) → wholeField start count ≡ firstOf (λ f. exactly f (start / 100) (start % 100) count) (drop (start % 100 / 2) fields)
+unfolding wholeField
 whole-begins start count =
     skip (λ f. exactly f (start / 100) (start % 100) count) (start % 100 / 2) fields
     (elsewhere (start / 100) (start % 100) count (take (start % 100 / 2) fields) (half-before start))

@@ -1,4 +1,4 @@
--- Which fields can be written, and whose they are. Assumes nothing.
+-- Which fields can be written, and whose they are, by tests computed over the rows. Assumes nothing.
 use mathlib.Core.Path.{_≡_, refl, sym, _∙_}
 use mathlib.Core.Bool.{Bool, true, false, _&&_, _||_, not, false≢true}
 use Prim.Native.Nat.{ℕ, _/_, _≤_}

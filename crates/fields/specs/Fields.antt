@@ -99,8 +99,8 @@ allFound r zero = true
 allFound r (suc n) = found (fieldAt r) && allFound (suc r) n
 
 -- "exactly one whole field"
-unfoldable pub whole : ℕ → ℕ → Found
-whole start count = firstOf (λ f. exactly f (start / 100) (start % 100) count) fields
+unfoldable pub wholeField : ℕ → ℕ → Found
+wholeField start count = firstOf (λ f. exactly f (start / 100) (start % 100) count) fields
 
 -- ---- registers that adjoin
 
@@ -110,7 +110,7 @@ spanIn Absent = Mismatch
 
 -- what count registers from start on are: with one absent among them, one whole field, or neither
 unfoldable pub spanOf : ℕ → ℕ → Span
-spanOf start count = cond (allFound start count) (spanIn (whole start count)) Gap
+spanOf start count = cond (allFound start count) (spanIn (wholeField start count)) Gap
 
 -- document 01's code for each: "2: a register named is absent, or past 0xFFFF", "0x80: a write isn't exactly one whole field"; 0 is no refusal
 abbrev pub codeOf : Span → ℕ

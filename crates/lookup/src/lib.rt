@@ -2,7 +2,7 @@
 ghost use mathlib.Core.Path.{_≡_};
 ghost use Prim.Native.Nat.{_+_, _≤_};
 ghost use Rattle.fields.specs.Fields.{ownerBit, spanOf, codeOf};
-ghost use Rattle.lookup.specs.Reach.{reachBy};
+ghost use Rattle.lookup.specs.Steps.{reachBy};
 
 pub mod rows; // the table
 

@@ -105,21 +105,21 @@ CandidateFits SameX = Unit {0}
 -- what a method makes of floats of the format fits the format
 pub candidate-fits : (m : Method) → MethodFits m → CandidateFits (candidateOf m)
 unfolding candidateOf
-candidate-fits (Direct a b c) t = record { fits-first = t .0; fits-second = t .1; fits-third = t .2 }
+candidate-fits (Direct a b c) t = record { fits-coefficient1 = t .0; fits-coefficient2 = t .1; fits-coefficient3 = t .2 }
 candidate-fits (OnePoint x1 y1) t = go (eq x1 plusZero)
   where
-    go : (b : Bool) → CandidateFits (cond b ZeroX (Made (record { first = plusZero; second = div binary32 y1 x1; third = plusZero })))
+    go : (b : Bool) → CandidateFits (cond b ZeroX (Made (record { coefficient1 = plusZero; coefficient2 = div binary32 y1 x1; coefficient3 = plusZero })))
     go true = tt
-    go false = record { fits-first = ofBits-fits binary32 0; fits-second = div-fits binary32 y1 x1; fits-third = ofBits-fits binary32 0 }
+    go false = record { fits-coefficient1 = ofBits-fits binary32 0; fits-coefficient2 = div-fits binary32 y1 x1; fits-coefficient3 = ofBits-fits binary32 0 }
 candidate-fits (TwoPoints x1 y1 x2 y2) t = go (eq x1 x2)
   where
-    go : (b : Bool) → CandidateFits (cond b SameX (Made (record { first = offset (slope x1 y1 x2 y2) x1 y1; second = slope x1 y1 x2 y2; third = plusZero })))
+    go : (b : Bool) → CandidateFits (cond b SameX (Made (record { coefficient1 = offset (slope x1 y1 x2 y2) x1 y1; coefficient2 = slope x1 y1 x2 y2; coefficient3 = plusZero })))
     go true = tt
     go false =
         record {
-          fits-first = sub-fits binary32 y1 (mul binary32 (slope x1 y1 x2 y2) x1);
-          fits-second = div-fits binary32 (sub binary32 y1 y2) (sub binary32 x1 x2);
-          fits-third = ofBits-fits binary32 0;
+          fits-coefficient1 = sub-fits binary32 y1 (mul binary32 (slope x1 y1 x2 y2) x1);
+          fits-coefficient2 = div-fits binary32 (sub binary32 y1 y2) (sub binary32 x1 x2);
+          fits-coefficient3 = ofBits-fits binary32 0;
         }
 
 -- accepted coefficients fit the format
@@ -131,10 +131,10 @@ pub method-fits : (n : ℕ) (c : Coefficients) (p : Points) → CoefficientsFit 
 unfolding methodOf
 method-fits n c p t u = go (eqb n 1) (eqb n 2)
   where
-    go : (a b : Bool) → MethodFits (cond a (OnePoint (p .x1) (p .y1)) (cond b (TwoPoints (p .x1) (p .y1) (p .x2) (p .y2)) (Direct (c .first) (c .second) (c .third))))
+    go : (a b : Bool) → MethodFits (cond a (OnePoint (p .x1) (p .y1)) (cond b (TwoPoints (p .x1) (p .y1) (p .x2) (p .y2)) (Direct (c .coefficient1) (c .coefficient2) (c .coefficient3))))
     go true b = (u .fits-x1, u .fits-y1)
     go false true = (u .fits-x1, u .fits-y1, u .fits-x2, u .fits-y2)
-    go false false = (t .fits-first, t .fits-second, t .fits-third)
+    go false false = (t .fits-coefficient1, t .fits-coefficient2, t .fits-coefficient3)
 
 -- the points of a method whose floats fit the format
 pub points-fit : (m : Method) → MethodFits m → PointsFit (pointsOf m)

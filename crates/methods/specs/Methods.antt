@@ -25,7 +25,7 @@ methodNumber (TwoPoints x1 y1 x2 y2) = 2
 
 -- the method that a number names, with the trial coefficients or the points that it uses
 unfoldable pub methodOf : ℕ → Coefficients → Points → Method
-methodOf n c p = cond (eqb n 1) (OnePoint (p .x1) (p .y1)) (cond (eqb n 2) (TwoPoints (p .x1) (p .y1) (p .x2) (p .y2)) (Direct (c .first) (c .second) (c .third)))
+methodOf n c p = cond (eqb n 1) (OnePoint (p .x1) (p .y1)) (cond (eqb n 2) (TwoPoints (p .x1) (p .y1) (p .x2) (p .y2)) (Direct (c .coefficient1) (c .coefficient2) (c .coefficient3)))
 
 -- "x1, y1, x2, y2 (+0.0 where the method doesn't use them)"
 abbrev pub pointsOf : Method → Points

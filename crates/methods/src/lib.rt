@@ -46,7 +46,7 @@ pub fn method_of(number: u16, trial: Coefficients, points: Points) -> Method
     match number {
         1 => Method::OnePoint(points.x1, points.y1),
         2 => Method::TwoPoints(points.x1, points.y1, points.x2, points.y2),
-        _ => Method::Direct(trial.first, trial.second, trial.third),
+        _ => Method::Direct(trial.coefficient1, trial.coefficient2, trial.coefficient3),
     }
 }
 
@@ -87,18 +87,18 @@ pub fn candidate_of(m: Method) -> Candidate
 {
     match m {
         Method::Direct(a, b, c) => Candidate::Made(Coefficients {
-            first: a,
-            second: b,
-            third: c,
+            coefficient1: a,
+            coefficient2: b,
+            coefficient3: c,
         }),
         Method::OnePoint(x1, y1) => {
             if x1 == 0.0 {
                 return Candidate::ZeroX;
             }
             Candidate::Made(Coefficients {
-                first: 0.0,
-                second: y1 / x1,
-                third: 0.0,
+                coefficient1: 0.0,
+                coefficient2: y1 / x1,
+                coefficient3: 0.0,
             })
         }
         Method::TwoPoints(x1, y1, x2, y2) => {
@@ -107,9 +107,9 @@ pub fn candidate_of(m: Method) -> Candidate
             }
             let m = (y1 - y2) / (x1 - x2);
             Candidate::Made(Coefficients {
-                first: y1 - m * x1,
-                second: m,
-                third: 0.0,
+                coefficient1: y1 - m * x1,
+                coefficient2: m,
+                coefficient3: 0.0,
             })
         }
     }

@@ -1,24 +1,11 @@
--- The word of available units holds the units that the table lists, and no others. Document 01, "Register map": "Bit n of available units is
--- the units id n above 1, 17, 33, 65, 81 or 113, the nearest of these not above it." Assumes nothing.
+-- The word of available units holds the units that the table lists, and no others; a parameter has an id where its sensor has it. The tables
+-- are short: both are computed. Assumes nothing.
 use mathlib.Core.Path.{_≡_, refl}
 use mathlib.Core.Bool.{Bool, true, false, _&&_, not, cond, Bool·beq}
 use mathlib.Core.List.{List, [], _∷_}
-use Prim.Native.Nat.{ℕ, zero, suc, _+_, _-_, _*_}
+use Prim.Native.Nat.{ℕ, zero, suc}
 use lib.Dec.{eqb, leb}
-use Rattle.parameters.specs.Parameters.{countOf, idOf, defaultUnits, unitsAllowed, availableUnits}
-
--- "1, 17, 33, 65, 81 or 113, the nearest of these not above it"
-abbrev pub unitsBase : ℕ → ℕ
-unitsBase u = cond (leb 113 u) 113 (cond (leb 81 u) 81 (cond (leb 65 u) 65 (cond (leb 33 u) 33 (cond (leb 17 u) 17 1))))
-
-abbrev pub twoTo : ℕ → ℕ
-twoTo zero = 1
-twoTo (suc n) = 2 * twoTo n
-
--- the bits of the units below m that are listed for a parameter
-abbrev pub listedBits : ℕ → ℕ → ℕ
-listedBits id zero = 0
-listedBits id (suc m) = cond (unitsAllowed id m) (twoTo (m - unitsBase m)) 0 + listedBits id m
+use Rattle.parameters.specs.Parameters.{countOf, idOf, defaultUnits, unitsAllowed, availableUnits, listedBits}
 
 -- the ids of the table's seven rows
 abbrev pub ids : List ℕ

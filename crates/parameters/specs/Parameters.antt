@@ -1,6 +1,6 @@
 -- The parameters of the sensors. Document 01, "Register map", the table of ids and units. Assumes nothing.
 use mathlib.Core.Bool.{Bool, false, _&&_, _||_, cond}
-use Prim.Native.Nat.{ℕ}
+use Prim.Native.Nat.{ℕ, zero, suc, _+_, _-_, _*_}
 use lib.Dec.{eqb, leb}
 use lib.Ieee.{Float, binary32, add, mul}
 use Rattle.floats.specs.Floats.{near}
@@ -38,6 +38,24 @@ unfoldable pub availableUnits : ℕ → ℕ
 availableUnits id =
     cond (eqb id 1) 0x0003
     (cond (eqb id 9) 1 (cond (eqb id 11) 1 (cond (eqb id 20) 0x0010 (cond (eqb id 2) 0x003D (cond (eqb id 3) 0x0004 (cond (eqb id 51) 0x0020 0))))))
+
+-- ---- what the column "available" says: "Bit n of available units is the units id n above 1, 17, 33, 65, 81 or 113, the nearest of these not
+-- above it." parameters/proofs/Units has that law.
+
+-- "1, 17, 33, 65, 81 or 113, the nearest of these not above it"
+abbrev pub unitsBase : ℕ → ℕ
+unitsBase u = cond (leb 113 u) 113 (cond (leb 81 u) 81 (cond (leb 65 u) 65 (cond (leb 33 u) 33 (cond (leb 17 u) 17 1))))
+
+abbrev pub twoTo : ℕ → ℕ
+twoTo zero = 1
+twoTo (suc n) = 2 * twoTo n
+
+-- the bits of the units below m that are listed for a parameter
+abbrev pub listedBits : ℕ → ℕ → ℕ
+listedBits id zero = 0
+listedBits id (suc m) = cond (unitsAllowed id m) (twoTo (m - unitsBase m)) 0 + listedBits id m
+
+-- ---- level and conversion
 
 -- "3, 4 or 5 (W)"
 unfoldable pub levelAllowed : ℕ → Bool

@@ -1,4 +1,4 @@
--- `lookup::owner_bit` meets its contract. Assumes nothing.
+-- One row for each owner. Assumes nothing.
 use borrow.Author.Tests.{ne-eqb}
 use Rattle.fields.specs.Fields.{ownerBit}
 use Rattle.lookup.proofs.owner_bit.Statement.{statement}

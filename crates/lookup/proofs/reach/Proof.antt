@@ -1,5 +1,5 @@
--- `lookup::reach` meets its contract. Assumes nothing.
-use Rattle.lookup.specs.Reach.{reachBy}
+-- The test is that of the definition. Assumes nothing.
+use Rattle.lookup.specs.Steps.{reachBy}
 use borrow.Author.Needs.{needs}
 use Rattle.lookup.proofs.reach.Statement.{statement}
 use Rattle.lookup.proofs.reach.Tie as tie

@@ -1,5 +1,4 @@
--- `lookup::span` meets its contract: from any row on, the pass ends where the whole one does, and the search finds what the whole one finds.
--- Assumes nothing.
+-- From any row on, the pass ends where the whole one does, and the search finds what the whole one finds. Assumes nothing.
 use mathlib.Core.Path.{_≡_, sym, _∙_}
 use mathlib.Core.Bool.{Bool, true, false}
 use Prim.Native.Nat.{_-_, _/_, _%_, _≤_}
@@ -11,11 +10,11 @@ use borrow.Author.Needs.{needs}
 use borrow.Author.Tests.{eqb-true, ltb-true, le-leb, lt-leb}
 use Rattle.floats.proofs.Bools.{both}
 use Rattle.fields.specs.declared.Field.{Field}
-use Rattle.fields.specs.Fields.{fields, owns, holds, exactly, firstOf, whole}
+use Rattle.fields.specs.Fields.{fields, owns, holds, exactly, firstOf, wholeField}
 use Rattle.fields.proofs.Runs.{reach, reached, run, all-found-run, run-begins}
 use Rattle.fields.proofs.Search.{noField, hit, miss, more, row-shape, whole-begins}
 use Rattle.fields.proofs.Spans.{span-whole, span-mismatch, span-gap, span-unowned}
-use Rattle.lookup.specs.Reach.{reachBy}
+use Rattle.lookup.specs.Steps.{reachBy}
 use Rattle.lookup.proofs.span.Statement.{statement}
 use Rattle.lookup.proofs.span.Tie as tie
 
@@ -23,7 +22,7 @@ abbrev Inv-loop : tie.InvT-loop
 Inv-loop start count bit offset end table at₀ i₀ at i =
     (at ≤ 65535)
     × (run start ≡ reached (drop i fields) (start / 100) at)
-    × (whole start count ≡ firstOf (λ f. exactly f (start / 100) (start % 100) count) (drop i fields))
+    × (wholeField start count ≡ firstOf (λ f. exactly f (start / 100) (start % 100) count) (drop i fields))
 
 abbrev μ-loop : tie.MeasureT-loop
 μ-loop start count bit offset end table at₀ i₀ at i = length fields - i

@@ -1,4 +1,4 @@
--- `methods::candidate_of` meets its contract: method by method, with and without a candidate. Assumes nothing.
+-- By cases of the method, with and without a candidate. Assumes nothing.
 use Rattle.methods.specs.Methods.{candidateOf}
 use borrow.Author.Needs.{needs}
 use Rattle.methods.proofs.candidate_of.Statement.{statement}

@@ -1,4 +1,4 @@
--- `methods::judge` meets its contract: the verdict is on what the method gives. Assumes nothing.
+-- Assumes nothing.
 use Rattle.methods.specs.Methods.{judgedOf, verdictOf}
 use borrow.Author.Needs.{needs}
 use Rattle.methods.proofs.judge.Statement.{statement}

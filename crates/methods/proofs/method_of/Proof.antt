@@ -1,4 +1,4 @@
--- `methods::method_of` meets its contract: number by number. Assumes nothing.
+-- The tests stand in the order of the definition. Assumes nothing.
 use borrow.Author.Tests.{ne-eqb}
 use Rattle.methods.specs.Methods.{methodOf}
 use Rattle.methods.proofs.method_of.Statement.{statement}

@@ -1,4 +1,4 @@
--- `methods::points_of` meets its contract: method by method. Assumes nothing.
+-- By cases of the method. Assumes nothing.
 use borrow.Author.Needs.{needs}
 use Rattle.methods.proofs.points_of.Statement.{statement}
 use Rattle.methods.proofs.points_of.Tie as tie

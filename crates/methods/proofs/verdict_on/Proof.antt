@@ -1,4 +1,4 @@
--- `methods::verdict_on` meets its contract: finiteness is tried first, then the limits. Assumes nothing.
+-- The tests stand in the order of the definition. Assumes nothing.
 use borrow.Author.Tests.{not-false, not-true}
 use Rattle.methods.specs.Methods.{verdictOf}
 use borrow.Author.Needs.{needs}

@@ -1,4 +1,4 @@
--- `parameters::convert` meets its contract. Assumes nothing.
+-- Each arm is a case of the definition, with the float nearest to its factor. Assumes nothing.
 use lib.Ieee.{ofBits, round}
 use borrow.Author.Tests.{ne-eqb}
 use Rattle.parameters.specs.Parameters.{converted}

@@ -1,4 +1,4 @@
--- `parameters::level_allowed` meets its contract. Assumes nothing.
+-- Assumes nothing.
 use borrow.Author.Needs.{needs}
 use Rattle.parameters.specs.Parameters.{levelAllowed}
 use Rattle.parameters.proofs.level_allowed.Statement.{statement}

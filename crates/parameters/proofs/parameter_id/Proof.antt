@@ -1,4 +1,4 @@
--- `parameters::parameter_id` meets its contract. Assumes nothing.
+-- Each arm is a row of the definition's table, by sensor and parameter. Assumes nothing.
 use borrow.Author.Tests.{ne-eqb}
 use Rattle.parameters.specs.Parameters.{idOf}
 use Rattle.parameters.proofs.parameter_id.Statement.{statement}

@@ -1,4 +1,4 @@
--- `parameters::units_allowed` meets its contract. Assumes nothing.
+-- Each arm is a row of the definition's table. Assumes nothing.
 use borrow.Author.Tests.{ne-eqb}
 use Rattle.parameters.specs.Parameters.{unitsAllowed}
 use Rattle.parameters.proofs.units_allowed.Statement.{statement}

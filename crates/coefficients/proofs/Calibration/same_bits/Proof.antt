@@ -1,4 +1,4 @@
--- `coefficients::Calibration::same_bits` meets its contract: the coefficients and the time are compared. Assumes nothing.
+-- Assumes nothing.
 use Rattle.coefficients.specs.Coefficients.{sameCalibration}
 use borrow.Author.Needs.{needs}
 use Rattle.coefficients.proofs.Calibration.same_bits.Statement.{statement}

@@ -1,4 +1,4 @@
--- `coefficients::Coefficients::defaults` meets its contract: sensor 3's defaults, and those of the others. Assumes nothing.
+-- Sensor 3 has its own defaults, and the literals are the floats of the definition by computation. Assumes nothing.
 use lib.Ieee.{ofBits, round}
 use borrow.Author.Tests.{eq-eqb, ne-eqb}
 use Rattle.floats.specs.Floats.{near}

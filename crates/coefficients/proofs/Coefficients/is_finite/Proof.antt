@@ -1,4 +1,4 @@
--- `coefficients::Coefficients::is_finite` meets its contract: each of the three is tried. Assumes nothing.
+-- Assumes nothing.
 use Rattle.coefficients.specs.Coefficients.{allFinite}
 use borrow.Author.Needs.{needs}
 use Rattle.coefficients.proofs.Coefficients.is_finite.Statement.{statement}

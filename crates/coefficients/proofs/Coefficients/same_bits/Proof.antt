@@ -1,4 +1,4 @@
--- `coefficients::Coefficients::same_bits` meets its contract: each of the three is compared. Assumes nothing.
+-- Assumes nothing.
 use Rattle.coefficients.specs.Coefficients.{sameCoefficients}
 use borrow.Author.Needs.{needs}
 use Rattle.coefficients.proofs.Coefficients.same_bits.Statement.{statement}

@@ -1,5 +1,5 @@
--- One row of the pass over the table, by the owner's bit, as the code makes it. fields/proofs/Runs shows that the pass tells which registers
--- exist. Assumes nothing.
+-- One row of the pass over the table, by the owner's bit, as the code makes it. No reader has to believe it: `all-found-run`
+-- (fields/proofs/Runs) says that the pass tells which registers exist. Assumes nothing.
 use mathlib.Core.Bool.{_&&_, not, cond}
 use Prim.Native.Nat.{ℕ, _+_}
 use lib.Bits.{bitAnd}
