@@ -1,5 +1,5 @@
--- What changes in a sensor's state. Document 01, "Calibration" and "Sonde and calls" ("Measure stores the raws that it reads").
--- Assumes nothing.
+-- The parts of a sensor's state, and what changes in them. Document 01, "Calibration" and "Sonde and calls" ("Measure stores the raws that it
+-- reads"). Assumes nothing.
 use mathlib.Core.Bool.{Bool, cond}
 use Prim.Native.Nat.{ℕ}
 use lib.Dec.{eqb}
@@ -11,72 +11,81 @@ use Rattle.coefficients.specs.declared.Coefficients.{Coefficients}
 use Rattle.coefficients.specs.declared.Calibration.{Calibration}
 use Rattle.methods.specs.declared.Points.{Points}
 use Rattle.sensors.specs.declared.Parameter.{Parameter}
+use Rattle.sensors.specs.declared.Parameters.{Parameters}
+use Rattle.sensors.specs.declared.Procedure.{Procedure}
+use Rattle.sensors.specs.declared.Active.{Active}
 use Rattle.sensors.specs.declared.Setup.{Setup}
 use Rattle.sensors.specs.declared.Sample.{Sample}
 use Rattle.sensors.specs.declared.Sensor.{Sensor}
 
--- a setup, field by field
-abbrev pub setup : Bool → Calibration → Coefficients → ℕ → Points → ℕ → ℕ → Parameter → Parameter → Parameter → Setup
-setup calibrating active trial method p next level a b c =
-    record {
-      calibrating = calibrating;
-      active = active;
-      trial = trial;
-      method = method;
-      points = p;
-      next = next;
-      level = level;
-      first = a;
-      second = b;
-      third = c;
-    }
+-- ---- the parts of a setup
+
+abbrev pub procedure : Bool → Coefficients → ℕ → Points → Procedure
+procedure calibrating trial method p = record { calibrating = calibrating; trial = trial; method = method; points = p }
+
+abbrev pub active : Calibration → ℕ → Active
+active c next = record { calibration = c; next = next }
+
+abbrev pub parameters : ℕ → Parameter → Parameter → Parameter → Parameters
+parameters level a b c = record { level = level; parameter1 = a; parameter2 = b; parameter3 = c }
+
+abbrev pub setup : Procedure → Active → Parameters → Setup
+setup p a q = record { procedure = p; active = a; parameters = q }
+
+-- one part replaced
+abbrev pub withProcedure : Setup → Procedure → Setup
+withProcedure s p = setup p (s .active) (s .parameters)
+
+abbrev pub withActive : Setup → Active → Setup
+withActive s a = setup (s .procedure) a (s .parameters)
+
+abbrev pub withParameters : Setup → Parameters → Setup
+withParameters s q = setup (s .procedure) (s .active) q
+
+-- ---- a calibration
+
+-- "mode on [off], trial := .., method := 0, points := +0.0"
+unfoldable pub newProcedure : Bool → Coefficients → Procedure
+newProcedure calibrating c = procedure calibrating c 0 (points plusZero plusZero plusZero plusZero)
+
+abbrev pub withTrial : Procedure → Coefficients → Procedure
+withTrial p c = procedure (p .calibrating) c (p .method) (p .points)
+
+abbrev pub withPoints : Procedure → Points → Procedure
+withPoints p q = procedure (p .calibrating) (p .trial) (p .method) q
 
 -- "mode on [off], trial := in force, method := 0, points := +0.0"
 unfoldable pub restarted : Setup → Bool → Setup
-restarted s calibrating =
-    setup calibrating (s .active) (coefficientsOf (s .active)) 0 (points plusZero plusZero plusZero plusZero) (s .next) (s .level) (s .first) (s .second) (s .third)
+restarted s calibrating = withProcedure s (newProcedure calibrating (coefficientsOf (s .active .calibration)))
 
 -- "the candidate becomes in force and trial, last calibration := clock, next := 0, .. mode stays on"
 unfoldable pub calibratedAt : Setup → Coefficients → ℕ → Setup
-calibratedAt s c clock = setup (s .calibrating) (calibrationOf c clock) c (s .method) (s .points) 0 (s .level) (s .first) (s .second) (s .third)
+calibratedAt s c clock = setup (withTrial (s .procedure) c) (active (calibrationOf c clock) 0) (s .parameters)
 
--- one value replaced
-unfoldable pub withNext : Setup → ℕ → Setup
-withNext s next = setup (s .calibrating) (s .active) (s .trial) (s .method) (s .points) next (s .level) (s .first) (s .second) (s .third)
-
-unfoldable pub withMethod : Setup → ℕ → Setup
-withMethod s method = setup (s .calibrating) (s .active) (s .trial) method (s .points) (s .next) (s .level) (s .first) (s .second) (s .third)
-
-unfoldable pub withTrial : Setup → Coefficients → Setup
-withTrial s trial = setup (s .calibrating) (s .active) trial (s .method) (s .points) (s .next) (s .level) (s .first) (s .second) (s .third)
-
-unfoldable pub withPoints : Setup → Points → Setup
-withPoints s p = setup (s .calibrating) (s .active) (s .trial) (s .method) p (s .next) (s .level) (s .first) (s .second) (s .third)
-
-unfoldable pub withLevel : Setup → ℕ → Setup
-withLevel s level = setup (s .calibrating) (s .active) (s .trial) (s .method) (s .points) (s .next) level (s .first) (s .second) (s .third)
+-- ---- parameters
 
 -- parameter 1, 2 or 3 replaced
-unfoldable pub withParameter : Setup → ℕ → Parameter → Setup
-withParameter s k p =
-    cond (eqb k 1) (setup (s .calibrating) (s .active) (s .trial) (s .method) (s .points) (s .next) (s .level) p (s .second) (s .third))
-    (cond (eqb k 2) (setup (s .calibrating) (s .active) (s .trial) (s .method) (s .points) (s .next) (s .level) (s .first) p (s .third))
-    (setup (s .calibrating) (s .active) (s .trial) (s .method) (s .points) (s .next) (s .level) (s .first) (s .second) p))
+unfoldable pub withParameter : Parameters → ℕ → Parameter → Parameters
+withParameter q k p =
+    cond (eqb k 1) (parameters (q .level) p (q .parameter2) (q .parameter3))
+    (cond (eqb k 2) (parameters (q .level) (q .parameter1) p (q .parameter3)) (parameters (q .level) (q .parameter1) (q .parameter2) p))
+
+-- ---- a measurement
 
 abbrev pub sample : Bool → Float → Float → Sample
-sample present first second = record { present = present; first = first; second = second }
+sample present raw1 raw2 = record { present = present; raw1 = raw1; raw2 = raw2 }
 
 -- "Measure stores the raws that it reads; not present, it reads none and keeps the old"; "the second is read for sensor 1 only"
 unfoldable pub measuredOf : Sample → ℕ → Bool → Float → Float → Sample
-measuredOf x sensor present first second =
-    cond present (cond (eqb sensor 1) (sample present first second) (sample present first (x .second))) (sample present (x .first) (x .second))
+measuredOf x sensor present raw1 raw2 =
+    cond present (cond (eqb sensor 1) (sample present raw1 raw2) (sample present raw1 (x .raw2))) (sample present (x .raw1) (x .raw2))
 
 abbrev pub sensorOf : Setup → Sample → Sensor
 sensorOf s x = record { setup = s; sample = x }
 
 -- "Methods with self and mut self on sonde and sensor, handing the state back": a measurement keeps the setup
 unfoldable pub measuredSensor : Sensor → ℕ → Bool → Float → Float → Sensor
-measuredSensor x sensor present first second = sensorOf (x .setup) (measuredOf (x .sample) sensor present first second)
+measuredSensor x sensor present raw1 raw2 = sensorOf (x .setup) (measuredOf (x .sample) sensor present raw1 raw2)
 
 -- and a new setup keeps the sample
 unfoldable pub sensorWithSetup : Sensor → Setup → Sensor

@@ -1,2 +1,2 @@
-pub mod Sensors
 pub mod Changes
+pub mod Sensors

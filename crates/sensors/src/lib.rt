@@ -1,10 +1,10 @@
 // The state of one sensor: what frames write and a calibration decides, and what measurements write.
 ghost use mathlib.Core.Path.{_≡_};
-ghost use Rattle.sensors.specs.Changes.{restarted, calibratedAt, withNext, withMethod, withTrial, withPoints, withLevel, withParameter, measuredOf, measuredSensor, sensorWithSetup};
-ghost use Rattle.sensors.specs.Sensors.{parameterOf, freshParameter, freshSetup, freshSample, freshSensor, unitsValid, levelValid, sentinelsFinite, validSetup, validSensor};
+ghost use Rattle.sensors.specs.Changes.{newProcedure, withParameter, restarted, calibratedAt, measuredOf, measuredSensor, sensorWithSetup};
+ghost use Rattle.sensors.specs.Sensors.{parameterOf, freshParameter, freshParameters, freshSetup, poweredSetup, freshSample, freshSensor, unitsValid, levelValid, validProcedure, validParameter, validParameters, validSetup, validSensor};
 use coefficients::Calibration;
 use coefficients::Coefficients;
-use coefficients::in_limits;
+use entries::calibration_valid;
 use entries::method_allowed;
 use entries::points_finite;
 use methods::Points;
@@ -16,27 +16,45 @@ pub struct Parameter {
     pub sentinel: f32,
 }
 
-// Document 01: mode on is `calibrating`, figures in force with the last calibration are `active`, trial figures are `trial`.
+// The parameters of a sensor, and the id of the level. Those that the sensor doesn't have stay as when fresh.
 #[repr(C)]
-pub struct Setup {
+pub struct Parameters {
+    pub level: u16,
+    pub parameter1: Parameter,
+    pub parameter2: Parameter,
+    pub parameter3: Parameter,
+}
+
+// A calibration in progress. Document 01: mode on is `calibrating`, trial figures are `trial`.
+#[repr(C)]
+pub struct Procedure {
     pub calibrating: bool,
-    pub active: Calibration,
     pub trial: Coefficients,
     pub method: u16,
     pub points: Points,
+}
+
+// The calibration in force. Document 01: figures in force with the last calibration are `calibration`, next calibration is `next`.
+#[repr(C)]
+pub struct Active {
+    pub calibration: Calibration,
     pub next: u32,
-    pub level: u16,
-    pub first: Parameter,
-    pub second: Parameter,
-    pub third: Parameter,
+}
+
+// What frames write and a calibration decides.
+#[repr(C)]
+pub struct Setup {
+    pub procedure: Procedure,
+    pub active: Active,
+    pub parameters: Parameters,
 }
 
 // Document 01: raw values, with present or not; not present until measured.
 #[repr(C)]
 pub struct Sample {
     pub present: bool,
-    pub first: f32,
-    pub second: f32,
+    pub raw1: f32,
+    pub raw2: f32,
 }
 
 #[repr(C)]
@@ -56,29 +74,24 @@ impl Parameter {
             sentinel: 0.0,
         }
     }
+
+    // Units that are listed and a finite sentinel.
+    fn is_valid(self, sensor: u16, k: u16) -> bool
+        ensures { λ r. ⌜ r ≡ validParameter sensor k self ⌝ }
+    {
+        floats::is_finite(self.sentinel) & units_valid(sensor, k, self.units)
+    }
 }
 
-impl Setup {
+impl Parameters {
     pub fn fresh(sensor: u16) -> Self
-        ensures { λ r. ⌜ r ≡ freshSetup sensor ⌝ }
+        ensures { λ r. ⌜ r ≡ freshParameters sensor ⌝ }
     {
-        let c = Coefficients::defaults(sensor);
-        Setup {
-            calibrating: false,
-            active: c.at(0),
-            trial: c,
-            method: 0,
-            points: Points {
-                x1: 0.0,
-                y1: 0.0,
-                x2: 0.0,
-                y2: 0.0,
-            },
-            next: 0,
+        Parameters {
             level: 3,
-            first: Parameter::fresh(sensor, 1),
-            second: Parameter::fresh(sensor, 2),
-            third: Parameter::fresh(sensor, 3),
+            parameter1: Parameter::fresh(sensor, 1),
+            parameter2: Parameter::fresh(sensor, 2),
+            parameter3: Parameter::fresh(sensor, 3),
         }
     }
 
@@ -87,111 +100,10 @@ impl Setup {
         ensures { λ r. ⌜ r ≡ parameterOf self k ⌝ }
     {
         match k {
-            1 => self.first,
-            2 => self.second,
-            _ => self.third,
+            1 => self.parameter1,
+            2 => self.parameter2,
+            _ => self.parameter3,
         }
-    }
-
-    fn sentinels_finite(self) -> bool
-        ensures { λ r. ⌜ r ≡ sentinelsFinite self ⌝ }
-    {
-        let a = self.first;
-        let b = self.second;
-        let c = self.third;
-        floats::is_finite(a.sentinel)
-            & floats::is_finite(b.sentinel)
-            & floats::is_finite(c.sentinel)
-    }
-
-    // Document 01: what a sound sonde asks of one sensor, its raw values left out.
-    pub fn is_valid(self, sensor: u16) -> bool
-        ensures { λ r. ⌜ r ≡ validSetup sensor self ⌝ }
-    {
-        let active = self.active;
-        let trial = self.trial;
-        let a = self.first;
-        let b = self.second;
-        let c = self.third;
-        let coefficients = active.coefficients();
-        coefficients.is_finite()
-            & trial.is_finite()
-            & points_finite(self.points)
-            & self.sentinels_finite()
-            & units_valid(sensor, 1, a.units)
-            & units_valid(sensor, 2, b.units)
-            & units_valid(sensor, 3, c.units)
-            & method_allowed(sensor, self.method)
-            & level_valid(sensor, self.level)
-            & in_limits(sensor, coefficients)
-    }
-}
-
-// What a write or a calibration changes; each hands the setup back.
-impl Setup {
-    // Mode on or off; the trial coefficients are the active ones again, method 0 and points +0.0.
-    pub fn restart(mut self, calibrating: bool) -> Self
-        ensures { λ r. ⌜ r ≡ restarted self calibrating ⌝ }
-    {
-        let active = self.active;
-        let trial = active.coefficients();
-        let points = Points {
-            x1: 0.0,
-            y1: 0.0,
-            x2: 0.0,
-            y2: 0.0,
-        };
-        self.calibrating = calibrating;
-        self.trial = trial;
-        self.method = 0;
-        self.points = points;
-        self
-    }
-
-    // The coefficients become active and trial, calibrated at the clock; no next calibration is set.
-    pub fn calibrate(mut self, c: Coefficients, clock: u32) -> Self
-        ensures { λ r. ⌜ r ≡ calibratedAt self c clock ⌝ }
-    {
-        let active = c.at(clock);
-        self.active = active;
-        self.trial = c;
-        self.next = 0;
-        self
-    }
-
-    pub fn with_next(mut self, next: u32) -> Self
-        ensures { λ r. ⌜ r ≡ withNext self next ⌝ }
-    {
-        self.next = next;
-        self
-    }
-
-    pub fn with_method(mut self, method: u16) -> Self
-        ensures { λ r. ⌜ r ≡ withMethod self method ⌝ }
-    {
-        self.method = method;
-        self
-    }
-
-    pub fn with_trial(mut self, trial: Coefficients) -> Self
-        ensures { λ r. ⌜ r ≡ withTrial self trial ⌝ }
-    {
-        self.trial = trial;
-        self
-    }
-
-    pub fn with_points(mut self, points: Points) -> Self
-        ensures { λ r. ⌜ r ≡ withPoints self points ⌝ }
-    {
-        self.points = points;
-        self
-    }
-
-    pub fn with_level(mut self, level: u16) -> Self
-        ensures { λ r. ⌜ r ≡ withLevel self level ⌝ }
-    {
-        self.level = level;
-        self
     }
 
     // Parameter 1, 2 or 3 replaced.
@@ -199,10 +111,116 @@ impl Setup {
         ensures { λ r. ⌜ r ≡ withParameter self k p ⌝ }
     {
         match k {
-            1 => self.first = p,
-            2 => self.second = p,
-            _ => self.third = p,
+            1 => self.parameter1 = p,
+            2 => self.parameter2 = p,
+            _ => self.parameter3 = p,
         }
+        self
+    }
+
+    fn is_valid(self, sensor: u16) -> bool
+        ensures { λ r. ⌜ r ≡ validParameters sensor self ⌝ }
+    {
+        let a = self.parameter1;
+        let b = self.parameter2;
+        let c = self.parameter3;
+        level_valid(sensor, self.level)
+            & a.is_valid(sensor, 1)
+            & b.is_valid(sensor, 2)
+            & c.is_valid(sensor, 3)
+    }
+}
+
+impl Procedure {
+    // As a calibration begins and ends: trial coefficients c, method 0 and points +0.0.
+    pub fn new(calibrating: bool, c: Coefficients) -> Self
+        ensures { λ r. ⌜ r ≡ newProcedure calibrating c ⌝ }
+    {
+        Procedure {
+            calibrating,
+            trial: c,
+            method: 0,
+            points: Points {
+                x1: 0.0,
+                y1: 0.0,
+                x2: 0.0,
+                y2: 0.0,
+            },
+        }
+    }
+
+    fn is_valid(self, sensor: u16) -> bool
+        ensures { λ r. ⌜ r ≡ validProcedure sensor self ⌝ }
+    {
+        let trial = self.trial;
+        trial.is_finite() & points_finite(self.points) & method_allowed(sensor, self.method)
+    }
+}
+
+impl Setup {
+    pub fn fresh(sensor: u16) -> Self
+        ensures { λ r. ⌜ r ≡ freshSetup sensor ⌝ }
+    {
+        let c = Coefficients::defaults(sensor);
+        Setup {
+            procedure: Procedure::new(false, c),
+            active: Active {
+                calibration: c.at(0),
+                next: 0,
+            },
+            parameters: Parameters::fresh(sensor),
+        }
+    }
+
+    // As after a power-up: the replayed calibration, all else as when fresh.
+    pub fn powered(sensor: u16, c: Calibration) -> Self
+        ensures { λ r. ⌜ r ≡ poweredSetup sensor c ⌝ }
+    {
+        Setup {
+            procedure: Procedure::new(false, c.coefficients()),
+            active: Active {
+                calibration: c,
+                next: 0,
+            },
+            parameters: Parameters::fresh(sensor),
+        }
+    }
+
+    // Document 01: what a sound sonde asks of one sensor, its raw values left out.
+    pub fn is_valid(self, sensor: u16) -> bool
+        ensures { λ r. ⌜ r ≡ validSetup sensor self ⌝ }
+    {
+        let procedure = self.procedure;
+        let active = self.active;
+        let parameters = self.parameters;
+        calibration_valid(sensor, active.calibration)
+            & procedure.is_valid(sensor)
+            & parameters.is_valid(sensor)
+    }
+
+    // Mode on or off; the trial coefficients are those in force again, method 0 and points +0.0.
+    pub fn restart(mut self, calibrating: bool) -> Self
+        ensures { λ r. ⌜ r ≡ restarted self calibrating ⌝ }
+    {
+        let active = self.active;
+        let c = active.calibration;
+        let procedure = Procedure::new(calibrating, c.coefficients());
+        self.procedure = procedure;
+        self
+    }
+
+    // The coefficients come into force and are the trial ones, calibrated at the clock; no next calibration is set.
+    pub fn calibrate(mut self, c: Coefficients, clock: u32) -> Self
+        ensures { λ r. ⌜ r ≡ calibratedAt self c clock ⌝ }
+    {
+        let mut procedure = self.procedure;
+        procedure.trial = c;
+        self.procedure = procedure;
+        let calibration = c.at(clock);
+        let mut active = self.active;
+        active.calibration = calibration;
+        active.next = 0;
+        self.active = active;
         self
     }
 }
@@ -213,22 +231,22 @@ impl Sample {
     {
         Sample {
             present: false,
-            first: 0.0,
-            second: 0.0,
+            raw1: 0.0,
+            raw2: 0.0,
         }
     }
 
     // A measurement. The second raw is read for sensor 1 only; not present, none is read and the old ones stay.
-    pub fn measure(mut self, sensor: u16, present: bool, first: f32, second: f32) -> Self
-        ensures { λ r. ⌜ r ≡ measuredOf self sensor present first second ⌝ }
+    pub fn measure(mut self, sensor: u16, present: bool, raw1: f32, raw2: f32) -> Self
+        ensures { λ r. ⌜ r ≡ measuredOf self sensor present raw1 raw2 ⌝ }
     {
         self.present = present;
         if !present {
             return self;
         }
-        self.first = first;
+        self.raw1 = raw1;
         if sensor == 1 {
-            self.second = second;
+            self.raw2 = raw2;
         }
         self
     }
@@ -249,15 +267,15 @@ impl Sensor {
     {
         let setup = self.setup;
         let sample = self.sample;
-        setup.is_valid(sensor) & floats::is_finite(sample.first) & floats::is_finite(sample.second)
+        setup.is_valid(sensor) & floats::is_finite(sample.raw1) & floats::is_finite(sample.raw2)
     }
 
     // A measurement; the setup stays.
-    pub fn measure(mut self, sensor: u16, present: bool, first: f32, second: f32) -> Self
-        ensures { λ r. ⌜ r ≡ measuredSensor self sensor present first second ⌝ }
+    pub fn measure(mut self, sensor: u16, present: bool, raw1: f32, raw2: f32) -> Self
+        ensures { λ r. ⌜ r ≡ measuredSensor self sensor present raw1 raw2 ⌝ }
     {
         let before = self.sample;
-        let sample = before.measure(sensor, present, first, second);
+        let sample = before.measure(sensor, present, raw1, raw2);
         self.sample = sample;
         self
     }

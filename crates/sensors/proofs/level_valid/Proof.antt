@@ -1,4 +1,4 @@
--- `sensors::level_valid` meets its contract. Assumes nothing.
+-- Assumes nothing.
 use borrow.Author.Tests.{eq-eqb, ne-eqb}
 use Rattle.sensors.specs.Sensors.{levelValid}
 use borrow.Author.Needs.{needs}

@@ -1,4 +1,4 @@
--- `sensors::Parameter::fresh` meets its contract. Assumes nothing.
+-- Assumes nothing.
 use Rattle.sensors.specs.Sensors.{freshParameter}
 use borrow.Author.Needs.{needs}
 use Rattle.sensors.proofs.Parameter.fresh.Statement.{statement}

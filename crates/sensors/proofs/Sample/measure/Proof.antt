@@ -1,4 +1,4 @@
--- `sensors::Sample::measure` meets its contract. Assumes nothing.
+-- Assumes nothing.
 use borrow.Author.Tests.{eq-eqb, ne-eqb, not-false, not-true}
 use Rattle.sensors.specs.Changes.{measuredOf}
 use Rattle.sensors.proofs.Sample.measure.Statement.{statement}

@@ -1,4 +1,4 @@
--- `sensors::Sensor::fresh` meets its contract. Assumes nothing.
+-- Assumes nothing.
 use Rattle.sensors.specs.Sensors.{freshSensor}
 use borrow.Author.Needs.{needs}
 use Rattle.sensors.proofs.Sensor.fresh.Statement.{statement}

@@ -1,4 +1,4 @@
--- `sensors::Sensor::is_valid` meets its contract. Assumes nothing.
+-- Assumes nothing.
 use Rattle.sensors.specs.Sensors.{validSensor}
 use borrow.Author.Needs.{needs}
 use Rattle.sensors.proofs.Sensor.is_valid.Statement.{statement}

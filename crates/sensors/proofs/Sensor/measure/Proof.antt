@@ -1,4 +1,4 @@
--- `sensors::Sensor::measure` meets its contract. Assumes nothing.
+-- Assumes nothing.
 use borrow.Author.Needs.{needs}
 use Rattle.sensors.specs.Changes.{measuredSensor}
 use Rattle.sensors.proofs.Sensor.measure.Statement.{statement}

@@ -1,4 +1,4 @@
--- `sensors::Sensor::with_setup` meets its contract. Assumes nothing.
+-- Assumes nothing.
 use borrow.Author.Needs.{needs}
 use Rattle.sensors.specs.Changes.{sensorWithSetup}
 use Rattle.sensors.proofs.Sensor.with_setup.Statement.{statement}

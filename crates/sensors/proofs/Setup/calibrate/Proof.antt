@@ -1,4 +1,4 @@
--- `sensors::Setup::calibrate` meets its contract. Assumes nothing.
+-- Assumes nothing.
 use Rattle.sensors.specs.Changes.{calibratedAt}
 use borrow.Author.Needs.{needs}
 use Rattle.sensors.proofs.Setup.calibrate.Statement.{statement}
@@ -6,7 +6,7 @@ use Rattle.sensors.proofs.Setup.calibrate.Tie as tie
 
 returns : tie.Need-returns
 unfolding calibratedAt
-returns c = simp (c .at .ensures)
+returns c = simp (← c .before .at .ensures)
 
 pub calibrate-spec : {M : Type 1} → statement M
 calibrate-spec = tie.close (tie.spec (λ c κs. search needs) returns)

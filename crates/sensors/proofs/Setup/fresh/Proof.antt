@@ -1,4 +1,4 @@
--- `sensors::Setup::fresh` meets its contract. Assumes nothing.
+-- Assumes nothing.
 use Rattle.sensors.specs.Sensors.{freshSetup}
 use borrow.Author.Needs.{needs}
 use Rattle.sensors.proofs.Setup.fresh.Statement.{statement}
@@ -6,20 +6,7 @@ use Rattle.sensors.proofs.Setup.fresh.Tie as tie
 
 returns : tie.Need-returns
 unfolding freshSetup
-returns c =
-    let a = c .before in
-    let b = a .before in
-    let d = b .before in
-    let e = d .before in
-    simp (← e .defaults .ensures, d .at .ensures, ← b .fresh .ensures, ← a .fresh2 .ensures, ← c .fresh3 .ensures)
+returns c = simp (← c .before .before .before .defaults .ensures, ← c .before .before .new .ensures, ← c .before .at .ensures, ← c .fresh .ensures)
 
 pub fresh-spec : {M : Type 1} → statement M
-fresh-spec =
-    tie.close
-    (tie.spec
-    (λ c κs. search needs)
-    (λ c κs. search needs)
-    (λ c κs. search needs)
-    (λ c κs. search needs)
-    (λ c κs. search needs)
-    returns)
+fresh-spec = tie.close (tie.spec (λ c κs. search needs) (λ c κs. search needs) (λ c κs. search needs) (λ c κs. search needs) returns)

@@ -1,8 +1,8 @@
--- `sensors::Setup::with_parameter` meets its contract. Assumes nothing.
+-- Assumes nothing.
 use borrow.Author.Tests.{ne-eqb}
 use Rattle.sensors.specs.Changes.{withParameter}
-use Rattle.sensors.proofs.Setup.with_parameter.Statement.{statement}
-use Rattle.sensors.proofs.Setup.with_parameter.Tie as tie
+use Rattle.sensors.proofs.Parameters.with_parameter.Statement.{statement}
+use Rattle.sensors.proofs.Parameters.with_parameter.Tie as tie
 
 returns : tie.Need-returns
 unfolding withParameter

@@ -1,8 +1,8 @@
--- `sensors::Setup::parameter` meets its contract. Assumes nothing.
+-- Assumes nothing.
 use borrow.Author.Tests.{ne-eqb}
 use Rattle.sensors.specs.Sensors.{parameterOf}
-use Rattle.sensors.proofs.Setup.parameter.Statement.{statement}
-use Rattle.sensors.proofs.Setup.parameter.Tie as tie
+use Rattle.sensors.proofs.Parameters.parameter.Statement.{statement}
+use Rattle.sensors.proofs.Parameters.parameter.Tie as tie
 
 returns : tie.Need-returns
 unfolding parameterOf
