@@ -1,6 +1,6 @@
 // The readings of the parameters: value and quality, with the conversion to the units that are set.
 ghost use mathlib.Core.Path.{_≡_};
-ghost use Rattle.readings.specs.Readings.{height, resistivityOf, depthOf, calibratedOf, pressureOf, levelOf, conductivityValue, levelValue, valueOf, workedFrom, judgedReading, readingOf};
+ghost use Rattle.readings.specs.Readings.{heightOf, resistivityOf, levelOfId, calibratedOf, pressureOf, levelOf, conductivityValue, levelValue, valueOf, workedFrom, gradedReading, readingOf};
 use coefficients::Calibration;
 use sensors::Sample;
 use sensors::Sensor;
@@ -16,12 +16,12 @@ pub struct Reading {
 pub fn calibrated(setup: Setup, raw: f32) -> f32
     ensures { λ r. ⌜ r ≡ calibratedOf setup raw ⌝ }
 {
-    let calibrating = setup.calibrating;
+    let calibrating = setup.procedure.calibrating;
     if calibrating {
         return raw;
     }
-    let c = setup.active;
-    c.first + c.second * raw
+    let c = setup.active.calibration;
+    c.coefficient1 + c.coefficient2 * raw
 }
 
 pub fn resistivity(conductivity: f32) -> f32
@@ -34,20 +34,20 @@ pub fn resistivity(conductivity: f32) -> f32
 }
 
 // Document 01: L(p), a pressure as a height of water.
-fn water(p: f32) -> f32
-    ensures { λ r. ⌜ r ≡ height p ⌝ }
+fn height(p: f32) -> f32
+    ensures { λ r. ⌜ r ≡ heightOf p ⌝ }
 {
     p * 0.70307 / 1.0
 }
 
 // The level by its id, out of mode: 3 depth, 4 drawdown, 5 elevation.
-fn level_by_id(id: u16, pressure: f32, c: Calibration) -> f32
-    ensures { λ r. ⌜ r ≡ depthOf id pressure c ⌝ }
+fn level_of_id(id: u16, pressure: f32, c: Calibration) -> f32
+    ensures { λ r. ⌜ r ≡ levelOfId id pressure c ⌝ }
 {
     match id {
-        4 => c.second - water(pressure - c.third),
-        5 => c.second + water(pressure - c.third),
-        _ => water(pressure),
+        4 => c.coefficient2 - height(pressure - c.coefficient3),
+        5 => c.coefficient2 + height(pressure - c.coefficient3),
+        _ => height(pressure),
     }
 }
 
@@ -55,25 +55,25 @@ fn level_by_id(id: u16, pressure: f32, c: Calibration) -> f32
 pub fn pressure(setup: Setup, raw: f32) -> f32
     ensures { λ r. ⌜ r ≡ pressureOf setup raw ⌝ }
 {
-    let calibrating = setup.calibrating;
+    let calibrating = setup.procedure.calibrating;
     if calibrating {
         return raw;
     }
-    let c = setup.active;
-    raw - c.first
+    let c = setup.active.calibration;
+    raw - c.coefficient1
 }
 
 // The level; in mode the height of the pressure with the offset taken off.
 pub fn level(setup: Setup, raw: f32) -> f32
     ensures { λ r. ⌜ r ≡ levelOf setup raw ⌝ }
 {
-    let calibrating = setup.calibrating;
-    let c = setup.active;
-    let measured = raw - c.first;
+    let calibrating = setup.procedure.calibrating;
+    let c = setup.active.calibration;
+    let measured = raw - c.coefficient1;
     if calibrating {
-        return water(measured);
+        return height(measured);
     }
-    level_by_id(setup.level, measured, c)
+    level_of_id(setup.parameters.level, measured, c)
 }
 
 // Sensor 1: temperature, conductivity, resistivity.
@@ -81,9 +81,9 @@ fn conductivity_value(setup: Setup, sample: Sample, k: u16) -> f32
     ensures { λ r. ⌜ r ≡ conductivityValue setup sample k ⌝ }
 {
     match k {
-        1 => sample.second,
-        2 => calibrated(setup, sample.first),
-        _ => resistivity(calibrated(setup, sample.first)),
+        1 => sample.raw2,
+        2 => calibrated(setup, sample.raw1),
+        _ => resistivity(calibrated(setup, sample.raw1)),
     }
 }
 
@@ -92,8 +92,8 @@ fn level_value(setup: Setup, sample: Sample, k: u16) -> f32
     ensures { λ r. ⌜ r ≡ levelValue setup sample k ⌝ }
 {
     match k {
-        1 => pressure(setup, sample.first),
-        _ => level(setup, sample.first),
+        1 => pressure(setup, sample.raw1),
+        _ => level(setup, sample.raw1),
     }
 }
 
@@ -104,7 +104,7 @@ pub fn value(sensor: u16, setup: Setup, sample: Sample, k: u16) -> f32
     match sensor {
         1 => conductivity_value(setup, sample, k),
         3 => level_value(setup, sample, k),
-        _ => calibrated(setup, sample.first),
+        _ => calibrated(setup, sample.raw1),
     }
 }
 
@@ -122,8 +122,8 @@ fn worked_from(sensor: u16, k: u16) -> u16
 }
 
 // Quality and value: not present before not finite before in mode.
-fn judged(present: bool, good: bool, calibrating: bool, shown: f32, sentinel: f32) -> Reading
-    ensures { λ r. ⌜ r ≡ judgedReading present good calibrating shown sentinel ⌝ }
+fn graded(present: bool, good: bool, calibrating: bool, shown: f32, sentinel: f32) -> Reading
+    ensures { λ r. ⌜ r ≡ gradedReading present good calibrating shown sentinel ⌝ }
 {
     if !present {
         return Reading {
@@ -150,14 +150,16 @@ fn judged(present: bool, good: bool, calibrating: bool, shown: f32, sentinel: f3
 }
 
 // The reading of parameter k of a sensor.
-pub fn read(sensor: u16, s: Sensor, k: u16) -> Reading
+pub fn reading_of(sensor: u16, s: Sensor, k: u16) -> Reading
     ensures { λ r. ⌜ r ≡ readingOf sensor s k ⌝ }
 {
     let setup = s.setup;
     let sample = s.sample;
-    let p = setup.parameter(k);
+    let q = setup.parameters;
+    let p = q.parameter(k);
     let source = value(sensor, setup, sample, worked_from(sensor, k));
     let shown = parameters::convert(p.units, value(sensor, setup, sample, k));
     let good = floats::is_finite(source) & floats::is_finite(shown);
-    judged(sample.present, good, setup.calibrating, shown, p.sentinel)
+    let calibrating = setup.procedure.calibrating;
+    graded(sample.present, good, calibrating, shown, p.sentinel)
 }

@@ -16,18 +16,18 @@ use Rattle.registers.specs.declared.Device.{Device}
 
 -- "command (W, reads 1 with mode on, else 0)"
 unfoldable pub modeOf : Setup → ℕ
-modeOf s = cond (s .calibrating) 1 0
+modeOf s = cond (s .procedure .calibrating) 1 0
 
 -- "figures (M; shows trial in mode, else in force)"
 unfoldable pub shownCoefficients : Setup → Coefficients
-shownCoefficients s = cond (s .calibrating) (s .trial) (coefficientsOf (s .active))
+shownCoefficients s = cond (s .procedure .calibrating) (s .procedure .trial) (coefficientsOf (s .active .calibration))
 
 -- "10, 12, 14 figures"
 unfoldable pub coefficientRegister : Coefficients → ℕ → ℕ
 coefficientRegister c o =
-    cond (eqb o 10) (highWord (c .first)) (cond (eqb o 11) (lowWord (c .first))
-    (cond (eqb o 12) (highWord (c .second)) (cond (eqb o 13) (lowWord (c .second))
-    (cond (eqb o 14) (highWord (c .third)) (cond (eqb o 15) (lowWord (c .third)) 0)))))
+    cond (eqb o 10) (highWord (c .coefficient1)) (cond (eqb o 11) (lowWord (c .coefficient1))
+    (cond (eqb o 12) (highWord (c .coefficient2)) (cond (eqb o 13) (lowWord (c .coefficient2))
+    (cond (eqb o 14) (highWord (c .coefficient3)) (cond (eqb o 15) (lowWord (c .coefficient3)) 0)))))
 
 -- "16, 18, 20, 22 x1, y1, x2, y2"
 unfoldable pub pointRegister : Points → ℕ → ℕ
@@ -39,7 +39,7 @@ pointRegister p o =
 
 -- the column "id"; of the level the id that is set
 unfoldable pub shownId : ℕ → Setup → ℕ → ℕ
-shownId sensor s k = cond (eqb sensor 3 && eqb k 2) (s .level) (idOf sensor k)
+shownId sensor s k = cond (eqb sensor 3 && eqb k 2) (s .parameters .level) (idOf sensor k)
 
 -- "+0 value", "+4 quality": what the registers of a reading show
 unfoldable pub readingRegister : Reading → ℕ → ℕ
@@ -49,8 +49,8 @@ readingRegister r part = cond (eqb part 0) (highWord (r .value)) (cond (eqb part
 unfoldable pub parameterRegister : ℕ → Sensor → ℕ → ℕ → ℕ
 parameterRegister sensor s k part =
     cond (eqb part 2) (shownId sensor (s .setup) k)
-    (cond (eqb part 3) (parameterOf (s .setup) k .units)
-    (cond (eqb part 5) (highWord (parameterOf (s .setup) k .sentinel)) (cond (eqb part 6) (lowWord (parameterOf (s .setup) k .sentinel))
+    (cond (eqb part 3) (parameterOf (s .setup .parameters) k .units)
+    (cond (eqb part 5) (highWord (parameterOf (s .setup .parameters) k .sentinel)) (cond (eqb part 6) (lowWord (parameterOf (s .setup .parameters) k .sentinel))
     (cond (eqb part 7) (availableUnits (idOf sensor k))
     (readingRegister (readingOf sensor s k) part)))))
 
@@ -58,10 +58,10 @@ parameterRegister sensor s k part =
 unfoldable pub headRegister : ℕ → Setup → ℕ → ℕ
 headRegister sensor s o =
     cond (eqb o 0) sensor
-    (cond (eqb o 1) (s .active .time / 65536) (cond (eqb o 2) (s .active .time % 65536)
-    (cond (eqb o 3) (s .next / 65536) (cond (eqb o 4) (s .next % 65536)
+    (cond (eqb o 1) (s .active .calibration .time / 65536) (cond (eqb o 2) (s .active .calibration .time % 65536)
+    (cond (eqb o 3) (s .active .next / 65536) (cond (eqb o 4) (s .active .next % 65536)
     (cond (eqb o 5) (modeOf s)
-    (cond (eqb o 6) (s .method)
+    (cond (eqb o 6) (s .procedure .method)
     (cond (eqb o 7) (countOf sensor) 0)))))))
 
 -- "10, 12, 14 figures ..; 16, 18, 20, 22 x1, y1, x2, y2"; "Parameter k begins at 30 + 8 × (k - 1)"
@@ -69,7 +69,7 @@ unfoldable pub sensorRegister : ℕ → Sensor → ℕ → ℕ
 sensorRegister sensor s o =
     cond (ltb o 10) (headRegister sensor (s .setup) o)
     (cond (ltb o 16) (coefficientRegister (shownCoefficients (s .setup)) o)
-    (cond (ltb o 24) (pointRegister (s .setup .points) o)
+    (cond (ltb o 24) (pointRegister (s .setup .procedure .points) o)
     (cond (ltb o 30) 0
     (cond (ltb o 54) (parameterRegister sensor s ((o - 30) / 8 + 1) ((o - 30) % 8)) 0))))
 

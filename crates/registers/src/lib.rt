@@ -36,7 +36,7 @@ fn low(n: u32) -> u16
 fn mode(setup: Setup) -> u16
     ensures { λ r. ⌜ r ≡ modeOf setup ⌝ }
 {
-    let calibrating = setup.calibrating;
+    let calibrating = setup.procedure.calibrating;
     if calibrating {
         return 1;
     }
@@ -47,10 +47,10 @@ fn mode(setup: Setup) -> u16
 fn shown_coefficients(setup: Setup) -> Coefficients
     ensures { λ r. ⌜ r ≡ shownCoefficients setup ⌝ }
 {
-    let active = setup.active;
-    let settled = active.coefficients();
-    let trial = setup.trial;
-    let calibrating = setup.calibrating;
+    let c = setup.active.calibration;
+    let settled = c.coefficients();
+    let trial = setup.procedure.trial;
+    let calibrating = setup.procedure.calibrating;
     if !calibrating {
         return settled;
     }
@@ -62,12 +62,12 @@ fn coefficient_register(c: Coefficients, offset: u16) -> u16
     ensures { λ r. ⌜ r ≡ coefficientRegister c offset ⌝ }
 {
     match offset {
-        10 => floats::high_word(c.first),
-        11 => floats::low_word(c.first),
-        12 => floats::high_word(c.second),
-        13 => floats::low_word(c.second),
-        14 => floats::high_word(c.third),
-        15 => floats::low_word(c.third),
+        10 => floats::high_word(c.coefficient1),
+        11 => floats::low_word(c.coefficient1),
+        12 => floats::high_word(c.coefficient2),
+        13 => floats::low_word(c.coefficient2),
+        14 => floats::high_word(c.coefficient3),
+        15 => floats::low_word(c.coefficient3),
         _ => 0,
     }
 }
@@ -94,7 +94,7 @@ fn shown_id(sensor: u16, setup: Setup, k: u16) -> u16
     ensures { λ r. ⌜ r ≡ shownId sensor setup k ⌝ }
 {
     if (sensor == 3) & (k == 2) {
-        return setup.level;
+        return setup.parameters.level;
     }
     parameters::parameter_id(sensor, k)
 }
@@ -115,14 +115,15 @@ fn parameter_register(sensor: u16, s: Sensor, k: u16, part: u16) -> u16
     ensures { λ r. ⌜ r ≡ parameterRegister sensor s k part ⌝ }
 {
     let setup = s.setup;
-    let p = setup.parameter(k);
+    let q = setup.parameters;
+    let p = q.parameter(k);
     match part {
         2 => shown_id(sensor, setup, k),
         3 => p.units,
         5 => floats::high_word(p.sentinel),
         6 => floats::low_word(p.sentinel),
         7 => parameters::available_units(parameters::parameter_id(sensor, k)),
-        _ => reading_register(readings::read(sensor, s, k), part),
+        _ => reading_register(readings::reading_of(sensor, s, k), part),
     }
 }
 
@@ -131,14 +132,15 @@ fn head_register(sensor: u16, setup: Setup, offset: u16) -> u16
     ensures { λ r. ⌜ r ≡ headRegister sensor setup offset ⌝ }
 {
     let active = setup.active;
+    let c = active.calibration;
     match offset {
         0 => sensor,
-        1 => high(active.time),
-        2 => low(active.time),
-        3 => high(setup.next),
-        4 => low(setup.next),
+        1 => high(c.time),
+        2 => low(c.time),
+        3 => high(active.next),
+        4 => low(active.next),
         5 => mode(setup),
-        6 => setup.method,
+        6 => setup.procedure.method,
         7 => parameters::count(sensor),
         _ => 0,
     }
@@ -152,7 +154,7 @@ pub fn sensor_register(sensor: u16, s: Sensor, offset: u16) -> u16
     match offset {
         0..=9 => head_register(sensor, setup, offset),
         10..=15 => coefficient_register(shown_coefficients(setup), offset),
-        16..=23 => point_register(setup.points, offset),
+        16..=23 => point_register(setup.procedure.points, offset),
         30..=53 => parameter_register(sensor, s, (offset - 30) / 8 + 1, (offset - 30) % 8),
         _ => 0,
     }

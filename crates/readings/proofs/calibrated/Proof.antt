@@ -1,4 +1,4 @@
--- `readings::calibrated` meets its contract. Assumes nothing.
+-- Assumes nothing.
 use Rattle.readings.specs.Readings.{calibratedOf}
 use Rattle.readings.proofs.calibrated.Statement.{statement}
 use Rattle.readings.proofs.calibrated.Tie as tie

@@ -1,4 +1,4 @@
--- `readings::pressure` meets its contract. Assumes nothing.
+-- Assumes nothing.
 use Rattle.readings.specs.Readings.{pressureOf}
 use Rattle.readings.proofs.pressure.Statement.{statement}
 use Rattle.readings.proofs.pressure.Tie as tie

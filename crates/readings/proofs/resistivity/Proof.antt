@@ -1,4 +1,4 @@
--- `readings::resistivity` meets its contract. Assumes nothing.
+-- Assumes nothing.
 use lib.Ieee.{ofBits, round}
 use Rattle.readings.specs.Readings.{resistivityOf}
 use Rattle.floats.specs.Floats.{near}

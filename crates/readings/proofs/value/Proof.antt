@@ -1,4 +1,4 @@
--- `readings::value` meets its contract. Assumes nothing.
+-- Assumes nothing.
 use borrow.Author.Tests.{ne-eqb}
 use Rattle.readings.specs.Readings.{valueOf}
 use borrow.Author.Needs.{needs}

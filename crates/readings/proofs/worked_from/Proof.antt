@@ -1,4 +1,4 @@
--- `readings::worked_from` meets its contract. Assumes nothing.
+-- Assumes nothing.
 use Rattle.readings.specs.Readings.{workedFrom}
 use Rattle.readings.proofs.worked_from.Statement.{statement}
 use Rattle.readings.proofs.worked_from.Tie as tie

@@ -1,4 +1,4 @@
--- `registers::coefficient_register` meets its contract. Assumes nothing.
+-- Assumes nothing.
 use borrow.Author.Tests.{ne-eqb}
 use Rattle.registers.specs.Registers.{coefficientRegister}
 use borrow.Author.Needs.{needs}

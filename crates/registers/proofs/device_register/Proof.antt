@@ -1,4 +1,4 @@
--- `registers::device_register` meets its contract. Assumes nothing.
+-- Assumes nothing.
 use borrow.Author.Tests.{ne-eqb}
 use Rattle.registers.specs.Registers.{deviceRegister}
 use borrow.Author.Needs.{needs}

@@ -1,4 +1,4 @@
--- `registers::mode` meets its contract. Assumes nothing.
+-- Assumes nothing.
 use Rattle.registers.specs.Registers.{modeOf}
 use Rattle.registers.proofs.mode.Statement.{statement}
 use Rattle.registers.proofs.mode.Tie as tie

@@ -1,4 +1,4 @@
--- `registers::parameter_register` meets its contract. Assumes nothing.
+-- Assumes nothing.
 use borrow.Author.Tests.{ne-eqb}
 use Rattle.registers.specs.Registers.{parameterRegister}
 use borrow.Author.Needs.{needs}
@@ -27,7 +27,7 @@ returns-5 c = simp (c .before .before .match .keys5, ← c .before .parameter-id
 
 returns-6 : tie.Need-returns-6
 unfolding parameterRegister
-returns-6 c = simp (ne-eqb _ _ (c .before .before .match .rest .0 .0 .0 .0 .1), ne-eqb _ _ (c .before .before .match .rest .0 .0 .0 .1), ne-eqb _ _ (c .before .before .match .rest .0 .0 .1), ne-eqb _ _ (c .before .before .match .rest .0 .1), ne-eqb _ _ (c .before .before .match .rest .1), ← c .before .read .ensures, ← c .reading-register .ensures)
+returns-6 c = simp (ne-eqb _ _ (c .before .before .match .rest .0 .0 .0 .0 .1), ne-eqb _ _ (c .before .before .match .rest .0 .0 .0 .1), ne-eqb _ _ (c .before .before .match .rest .0 .0 .1), ne-eqb _ _ (c .before .before .match .rest .0 .1), ne-eqb _ _ (c .before .before .match .rest .1), ← c .before .reading-of .ensures, ← c .reading-register .ensures)
 
 pub parameter-register-spec : {M : Type 1} → statement M
 parameter-register-spec =

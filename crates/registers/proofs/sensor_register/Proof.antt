@@ -1,4 +1,4 @@
--- `registers::sensor_register` meets its contract. Assumes nothing.
+-- The ranges of the match are those of the definition. Assumes nothing.
 use borrow.Author.Tests.{le-ltb, lt-ltb}
 use Rattle.registers.specs.Registers.{sensorRegister}
 use borrow.Author.Needs.{needs}

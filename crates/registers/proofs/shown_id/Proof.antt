@@ -1,4 +1,4 @@
--- `registers::shown_id` meets its contract. Assumes nothing.
+-- Assumes nothing.
 use Rattle.registers.specs.Registers.{shownId}
 use borrow.Author.Needs.{needs}
 use Rattle.registers.proofs.shown_id.Statement.{statement}
