@@ -1,13 +1,13 @@
 -- What a write keeps: a valid setup valid, one of the format of the format, and the coefficients in force unless it is an update; and the
 -- codes of a refusal. Assumes nothing.
-use mathlib.Core.Path.{_≡_, refl}
+use mathlib.Core.Path.{_≡_, refl, ap}
 use mathlib.Core.Bool.{Bool, true, false, _&&_, cond}
 use Prim.Native.Nat.{ℕ}
 use native.Mathlib.Omega.{arith}
-use lib.Dec.{T, eqb}
+use lib.Dec.{T, eqb, ltb}
 use lib.Ieee.{Float, binary32, fits}
 use Rattle.floats.specs.Floats.{finite, pattern}
-use Rattle.floats.proofs.Bools.{both}
+use Rattle.floats.proofs.Bools.{both, choose}
 use Rattle.floats.proofs.Words.{float-of-finite, float-of-fits}
 use Rattle.coefficients.specs.Coefficients.{coefficients, allFinite}
 use Rattle.methods.specs.Methods.{points}
@@ -17,27 +17,30 @@ use Rattle.coefficients.proofs.Bits.{CoefficientsFit}
 use Rattle.methods.proofs.Candidates.{PointsFit}
 use Rattle.entries.specs.Entries.{pointsFinite}
 use Rattle.fields.specs.declared.Field.{Field}
-use Rattle.sensors.specs.Sensors.{validSetup}
-use Rattle.sensors.specs.Changes.{restarted, withNext, withMethod, withTrial, withPoints, withLevel}
+use Rattle.sensors.specs.Sensors.{validParameter, validParameters, validSetup}
+use Rattle.sensors.specs.Changes.{restarted}
+use Rattle.sensors.specs.declared.Parameter.{Parameter}
+use Rattle.sensors.specs.declared.Parameters.{Parameters}
+use Rattle.sensors.specs.declared.Active.{Active}
 use Rattle.sensors.specs.declared.Setup.{Setup}
-use Rattle.sensors.proofs.Setups.{SetupFits, valid-setup-parts, sentinel-finite, parameter-units, sentinel-fits}
-use Rattle.sensors.proofs.Changed.{restarted-valid, with-next-valid, with-method-valid, with-trial-valid, with-points-valid, with-level-valid, with-parameter-valid, units-listed, apart, restarted-fits, with-next-fits, with-method-fits, with-trial-fits, with-points-fits, with-level-fits, with-parameter-fits}
-use Rattle.writes.specs.Writes.{trialAt, pointAt, writeOf}
-use Rattle.writes.specs.declared.Written.{Written}
-use Rattle.writes.specs.declared.Written.the-variants.{Refused, Stored}
-use Rattle.writes.proofs.Outcomes.{Code, Change, same, restart, next, method, coefficient, point, level, units, sentinel, Outcome, refused, stored, update, write-outcome, stored-change}
+use Rattle.sensors.proofs.Setups.{ValidProcedure, ValidParameters, ParametersFit, SetupFits, valid-procedure-parts, valid-procedure, valid-parameter-parts, valid-parameter, valid-parameters-parts, valid-parameters, parameter-valid, valid-setup-parts, sentinel-fits}
+use Rattle.sensors.proofs.Changed.{with-procedure-valid, with-parameters-valid, with-next-valid, restarted-valid, with-level-valid, with-parameter-valid, units-listed, with-procedure-fits, with-parameters-fits, with-next-fits, restarted-fits, with-parameter-fits}
+use Rattle.writes.specs.Writes.{trialAt, pointAt, sentinelAt, withFloat, writeOf}
+use Rattle.commands.specs.declared.Written.{Written}
+use Rattle.commands.specs.declared.Written.the-variants.{Refused, Stored}
+use Rattle.writes.proofs.Outcomes.{Code, Change, same, restart, next, method, float, level, units, sentinel, Outcome, refused, stored, update, write-outcome, stored-change}
 
 -- ---- coefficients and points with one value replaced
 
 trial-finite : (c : Coefficients) (o : ℕ) (x : Float) → allFinite c ≡ true → finite x ≡ true → allFinite (trialAt c o x) ≡ true
 unfolding trialAt allFinite
 trial-finite c o x h f =
-    let t = both (finite (c .first) && finite (c .second)) (finite (c .third)) h in
-    let u = both (finite (c .first)) (finite (c .second)) (t .0) in
+    let t = both (finite (c .coefficient1) && finite (c .coefficient2)) (finite (c .coefficient3)) h in
+    let u = both (finite (c .coefficient1)) (finite (c .coefficient2)) (t .0) in
     go (u .0) (u .1) (t .1) (eqb o 10) (eqb o 12)
   where
-    go : finite (c .first) ≡ true → finite (c .second) ≡ true → finite (c .third) ≡ true → (a b : Bool)
-        → allFinite (cond a (coefficients x (c .second) (c .third)) (cond b (coefficients (c .first) x (c .third)) (coefficients (c .first) (c .second) x))) ≡ true
+    go : finite (c .coefficient1) ≡ true → finite (c .coefficient2) ≡ true → finite (c .coefficient3) ≡ true → (a b : Bool)
+        → allFinite (cond a (coefficients x (c .coefficient2) (c .coefficient3)) (cond b (coefficients (c .coefficient1) x (c .coefficient3)) (coefficients (c .coefficient1) (c .coefficient2) x))) ≡ true
     go p q r true b = rw (f, q, r)
     go p q r false true = rw (p, f, r)
     go p q r false false = rw (p, q, f)
@@ -47,10 +50,10 @@ unfolding trialAt
 trial-fits c o x t f = go (eqb o 10) (eqb o 12)
   where
     go : (a b : Bool)
-        → CoefficientsFit (cond a (coefficients x (c .second) (c .third)) (cond b (coefficients (c .first) x (c .third)) (coefficients (c .first) (c .second) x)))
-    go true b = record { fits-first = f; fits-second = t .fits-second; fits-third = t .fits-third }
-    go false true = record { fits-first = t .fits-first; fits-second = f; fits-third = t .fits-third }
-    go false false = record { fits-first = t .fits-first; fits-second = t .fits-second; fits-third = f }
+        → CoefficientsFit (cond a (coefficients x (c .coefficient2) (c .coefficient3)) (cond b (coefficients (c .coefficient1) x (c .coefficient3)) (coefficients (c .coefficient1) (c .coefficient2) x)))
+    go true b = record { fits-coefficient1 = f; fits-coefficient2 = t .fits-coefficient2; fits-coefficient3 = t .fits-coefficient3 }
+    go false true = record { fits-coefficient1 = t .fits-coefficient1; fits-coefficient2 = f; fits-coefficient3 = t .fits-coefficient3 }
+    go false false = record { fits-coefficient1 = t .fits-coefficient1; fits-coefficient2 = t .fits-coefficient2; fits-coefficient3 = f }
 
 abbrev one-of : Points → Float → Bool → Bool → Bool → Points
 one-of p x a b c =
@@ -81,45 +84,100 @@ points-fit p o x t f = go (eqb o 16) (eqb o 18) (eqb o 20)
     go false false true = record { fits-x1 = t .fits-x1; fits-y1 = t .fits-y1; fits-x2 = f; fits-y2 = t .fits-y2 }
     go false false false = record { fits-x1 = t .fits-x1; fits-y1 = t .fits-y1; fits-x2 = t .fits-x2; fits-y2 = f }
 
+-- ---- parameters with one sentinel replaced
+
+sentinel-valid : (n : ℕ) (q : Parameters) (o : ℕ) (x : Float) → validParameters n q ≡ true → finite x ≡ true → validParameters n (sentinelAt q o x) ≡ true
+unfolding sentinelAt
+sentinel-valid n q o x h f =
+    choose (λ r. validParameters n r ≡ true) (eqb o 35) _ _ (λ e. valid-parameters n _ (record { level-valid = v .level-valid; valid1 = with 1 (q .parameter1) (v .valid1); valid2 = v .valid2; valid3 = v .valid3 }))
+    (λ e. choose (λ r. validParameters n r ≡ true) (eqb o 43) _ _
+    (λ e. valid-parameters n _ (record { level-valid = v .level-valid; valid1 = v .valid1; valid2 = with 2 (q .parameter2) (v .valid2); valid3 = v .valid3 }))
+    (λ e. valid-parameters n _ (record { level-valid = v .level-valid; valid1 = v .valid1; valid2 = v .valid2; valid3 = with 3 (q .parameter3) (v .valid3) })))
+  where
+    v : ValidParameters n q
+    v = valid-parameters-parts n q h
+
+    with : (k : ℕ) (p : Parameter) → validParameter n k p ≡ true → validParameter n k (record { units = p .units; sentinel = x }) ≡ true
+    with k p u = valid-parameter n k (record { units = p .units; sentinel = x }) f (valid-parameter-parts n k p u .1)
+
+sentinel-fit : (q : Parameters) (o : ℕ) (x : Float) → ParametersFit q → T (fits binary32 x) → ParametersFit (sentinelAt q o x)
+unfolding sentinelAt
+sentinel-fit q o x v f =
+    choose ParametersFit (eqb o 35) _ _ (λ e. record { fits1 = f; fits2 = v .fits2; fits3 = v .fits3 })
+    (λ e. choose ParametersFit (eqb o 43) _ _ (λ e. record { fits1 = v .fits1; fits2 = f; fits3 = v .fits3 })
+    (λ e. record { fits1 = v .fits1; fits2 = v .fits2; fits3 = f }))
+
+-- ---- a float stored, of whichever field
+
+float-valid : (n : ℕ) (s : Setup) (o : ℕ) (x : Float) → validSetup n s ≡ true → finite x ≡ true → validSetup n (withFloat s o x) ≡ true
+unfolding withFloat
+float-valid n s o x h f =
+    choose (λ t. validSetup n t ≡ true) (ltb o 16) _ _
+    (λ e. with-procedure-valid n s h _
+    (valid-procedure n _ (record { trial-finite = trial-finite _ o x (p .trial-finite) f; points-finite = p .points-finite; method-allowed = p .method-allowed })))
+    (λ e. choose (λ t. validSetup n t ≡ true) (ltb o 24) _ _
+    (λ e. with-procedure-valid n s h _
+    (valid-procedure n _ (record { trial-finite = p .trial-finite; points-finite = points-finite _ o x (p .points-finite) f; method-allowed = p .method-allowed })))
+    (λ e. with-parameters-valid n s h _ (sentinel-valid n (s .parameters) o x (valid-setup-parts n s h .parameters-valid) f)))
+  where
+    p : ValidProcedure n (s .procedure)
+    p = valid-procedure-parts n (s .procedure) (valid-setup-parts n s h .procedure-valid)
+
+float-fits : (s : Setup) (o : ℕ) (x : Float) → SetupFits s → T (fits binary32 x) → SetupFits (withFloat s o x)
+unfolding withFloat
+float-fits s o x v f =
+    let p = v .fits-procedure in
+    choose SetupFits (ltb o 16) _ _ (λ e. with-procedure-fits s v _ (record { fits-trial = trial-fits _ o x (p .fits-trial) f; fits-points = p .fits-points }))
+    (λ e. choose SetupFits (ltb o 24) _ _ (λ e. with-procedure-fits s v _ (record { fits-trial = p .fits-trial; fits-points = points-fit _ o x (p .fits-points) f }))
+    (λ e. with-parameters-fits s v _ (sentinel-fit (s .parameters) o x (v .fits-parameters) f)))
+
+-- the calibration in force stays with it
+float-active : (s : Setup) (o : ℕ) (x : Float) → withFloat s o x .active ≡ s .active
+unfolding withFloat
+float-active s o x = choose (λ (t : Setup). t .active ≡ s .active) (ltb o 16) _ _ (λ e. refl) (λ e. choose (λ (t : Setup). t .active ≡ s .active) (ltb o 24) _ _ (λ e. refl) (λ e. refl))
+
 -- ---- a value stored
 
 change-valid : (sensor : ℕ) (s : Setup) (o high low : ℕ) {t : Setup} → Change sensor s o high low t → validSetup sensor s ≡ true → validSetup sensor t ≡ true
 change-valid n s o high low (same i) h = h
 change-valid n s o high low (restart mode i) h = restarted-valid n s h mode
 change-valid n s o high low (next i) h = with-next-valid n s h (pattern high low)
-change-valid n s o high low (method i m) h = with-method-valid n s h high m
-change-valid n s o high low (coefficient x r f) h =
-    with-trial-valid n s h (trialAt (s .trial) o x) (trial-finite (s .trial) o x (valid-setup-parts n s h .trial-finite) (float-of-finite high low x f))
-change-valid n s o high low (point x r f) h =
-    with-points-valid n s h (pointAt (s .points) o x) (points-finite (s .points) o x (valid-setup-parts n s h .points-finite) (float-of-finite high low x f))
-change-valid n s o high low (level r p l) h = with-level-valid n s h high l
-change-valid n s o high low (units k r i p u) h = with-parameter-valid n s h k _ (omega arith) (omega arith) (units-listed n k high u) (sentinel-finite n s k h)
-change-valid n s o high low (sentinel k x r i p f) h =
-    with-parameter-valid n s h k _ (omega arith) (omega arith) (parameter-units n s k (omega arith) (omega arith) h) (float-of-finite high low x f)
+change-valid n s o high low (method i m) h =
+    let p = valid-procedure-parts n (s .procedure) (valid-setup-parts n s h .procedure-valid) in
+    with-procedure-valid n s h _ (valid-procedure n _ (record { trial-finite = p .trial-finite; points-finite = p .points-finite; method-allowed = m }))
+change-valid n s o high low (float x r f) h = float-valid n s o x h (float-of-finite high low x f)
+change-valid n s o high low (level r p l) h = with-parameters-valid n s h _ (with-level-valid n (s .parameters) (valid-setup-parts n s h .parameters-valid) high l)
+change-valid n s o high low (units k r i p u) h =
+    let q = valid-setup-parts n s h .parameters-valid in
+    with-parameters-valid n s h _
+    (with-parameter-valid n (s .parameters) q k _ (omega arith) (omega arith)
+    (valid-parameter n k _ (valid-parameter-parts n k _ (parameter-valid n (s .parameters) k (omega arith) (omega arith) q) .0) (units-listed n k high u)))
+change-valid n s o high low (sentinel x r p f) h = float-valid n s o x h (float-of-finite high low x f)
 
 change-fits : (sensor : ℕ) (s : Setup) (o high low : ℕ) {t : Setup} → Change sensor s o high low t → SetupFits s → SetupFits t
 change-fits n s o high low (same i) v = v
 change-fits n s o high low (restart mode i) v = restarted-fits s v mode
 change-fits n s o high low (next i) v = with-next-fits s v (pattern high low)
-change-fits n s o high low (method i m) v = with-method-fits s v high
-change-fits n s o high low (coefficient x r f) v = with-trial-fits s v (trialAt (s .trial) o x) (trial-fits (s .trial) o x (v .fits-trial) (float-of-fits high low x f))
-change-fits n s o high low (point x r f) v = with-points-fits s v (pointAt (s .points) o x) (points-fit (s .points) o x (v .fits-points) (float-of-fits high low x f))
-change-fits n s o high low (level r p l) v = with-level-fits s v high
-change-fits n s o high low (units k r i p u) v = with-parameter-fits s v k _ (sentinel-fits s k v)
-change-fits n s o high low (sentinel k x r i p f) v = with-parameter-fits s v k _ (float-of-fits high low x f)
+change-fits n s o high low (method i m) v =
+    with-procedure-fits s v _ (record { fits-trial = v .fits-procedure .fits-trial; fits-points = v .fits-procedure .fits-points })
+change-fits n s o high low (float x r f) v = float-fits s o x v (float-of-fits high low x f)
+change-fits n s o high low (level r p l) v =
+    with-parameters-fits s v _ (record { fits1 = v .fits-parameters .fits1; fits2 = v .fits-parameters .fits2; fits3 = v .fits-parameters .fits3 })
+change-fits n s o high low (units k r i p u) v =
+    with-parameters-fits s v _ (with-parameter-fits (s .parameters) (v .fits-parameters) k _ (sentinel-fits (s .parameters) k (v .fits-parameters)))
+change-fits n s o high low (sentinel x r p f) v = float-fits s o x v (float-of-fits high low x f)
 
--- the active coefficients and the time of a setup stay with each value that is stored
-change-active : (sensor : ℕ) (s : Setup) (o high low : ℕ) {t : Setup} → Change sensor s o high low t → t .active ≡ s .active
-unfolding restarted withNext withMethod withTrial withPoints withLevel
+-- the calibration in force stays with each value that is stored
+change-active : (sensor : ℕ) (s : Setup) (o high low : ℕ) {t : Setup} → Change sensor s o high low t → t .active .calibration ≡ s .active .calibration
+unfolding restarted
 change-active n s o high low (same i) = refl
 change-active n s o high low (restart mode i) = refl
 change-active n s o high low (next i) = refl
 change-active n s o high low (method i m) = refl
-change-active n s o high low (coefficient x r f) = refl
-change-active n s o high low (point x r f) = refl
+change-active n s o high low (float x r f) = ap (λ (a : Active). a .calibration) (float-active s o x)
 change-active n s o high low (level r p l) = refl
-change-active n s o high low (units k r i p u) = apart (λ x. x .active) s k _ (λ a b c. refl)
-change-active n s o high low (sentinel k x r i p f) = apart (λ x. x .active) s k _ (λ a b c. refl)
+change-active n s o high low (units k r i p u) = refl
+change-active n s o high low (sentinel x r p f) = ap (λ (a : Active). a .calibration) (float-active s o x)
 
 -- ---- the laws of a write
 
@@ -133,7 +191,7 @@ module _ (sensor : ℕ) (s : Setup) (f : Field) (high low clock : ℕ) (spare : 
   write-fits t v e = change-fits sensor s (f .offset) high low (stored-change (write-outcome sensor s f high low clock spare) t e) v
 
   -- only an update changes the coefficients in force and the time of the last calibration
-  pub stored-active : (t : Setup) → writeOf sensor s f high low clock spare ≡ Stored t → t .active ≡ s .active
+  pub stored-active : (t : Setup) → writeOf sensor s f high low clock spare ≡ Stored t → t .active .calibration ≡ s .active .calibration
   stored-active t e = change-active sensor s (f .offset) high low (stored-change (write-outcome sensor s f high low clock spare) t e)
 
   -- a refusal's code is 0x92, 0x84, 0x97 or 0xC0

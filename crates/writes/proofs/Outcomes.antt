@@ -18,11 +18,12 @@ use Rattle.entries.specs.Entries.{methodAllowed, entryOf}
 use Rattle.parameters.specs.Parameters.{idOf, unitsAllowed, levelAllowed}
 use Rattle.fields.specs.declared.Field.{Field}
 use Rattle.sensors.specs.Sensors.{parameterOf}
-use Rattle.sensors.specs.Changes.{restarted, calibratedAt, withNext, withMethod, withTrial, withPoints, withLevel, withParameter}
+use Rattle.sensors.specs.Changes.{procedure, active, parameters, withProcedure, withActive, withParameters, restarted, calibratedAt, withParameter}
 use Rattle.sensors.specs.declared.Setup.{Setup}
-use Rattle.writes.specs.Writes.{methodSet, judgedUpdate, updated, commanded, nextWritten, methodWritten, trialAt, coefficientStored, coefficientWritten, pointAt, pointStored, pointWritten, levelWritten, unitsWritten, sentinelStored, sentinelWritten, parameterWritten, fieldWritten, writeOf}
-use Rattle.writes.specs.declared.Written.{Written}
-use Rattle.writes.specs.declared.Written.the-variants.{Refused, Stored, Updated}
+use Rattle.commands.specs.Commands.{methodSet, judgedUpdate, updated, commanded}
+use Rattle.writes.specs.Writes.{nextWritten, methodWritten, withFloat, floatStored, floatWritten, levelWritten, unitsWritten, parameterWritten, fieldWritten, writeOf}
+use Rattle.commands.specs.declared.Written.{Written}
+use Rattle.commands.specs.declared.Written.the-variants.{Refused, Stored, Updated}
 
 -- the codes that refuse a write of a whole field
 pub data Code : ℕ → Type 0 where
@@ -35,28 +36,28 @@ pub data Code : ℕ → Type 0 where
 pub data Change (sensor : ℕ) (s : Setup) (o high low : ℕ) : Setup → Type 0 where
   same : o ≡ 5 → Change sensor s o high low s
   restart : (mode : Bool) → o ≡ 5 → Change sensor s o high low (restarted s mode)
-  next : o ≡ 3 → Change sensor s o high low (withNext s (pattern high low))
-  method : o ≡ 6 → methodAllowed sensor high ≡ true → Change sensor s o high low (withMethod s high)
-  coefficient : (x : Float) → (10 ≤ o) × (o ≤ 15) → floatOf high low ≡ Finite x → Change sensor s o high low (withTrial s (trialAt (s .trial) o x))
-  point : (x : Float) → (16 ≤ o) × (o ≤ 23) → floatOf high low ≡ Finite x → Change sensor s o high low (withPoints s (pointAt (s .points) o x))
-  level : (30 ≤ o) × (o ≤ 53) → (o - 30) % 8 ≡ 2 → levelAllowed high ≡ true → Change sensor s o high low (withLevel s high)
+  next : o ≡ 3 → Change sensor s o high low (withActive s (active (s .active .calibration) (pattern high low)))
+  method : o ≡ 6 → methodAllowed sensor high ≡ true
+      → Change sensor s o high low (withProcedure s (procedure (s .procedure .calibrating) (s .procedure .trial) high (s .procedure .points)))
+  float : (x : Float) → (10 ≤ o) × (o ≤ 23) → floatOf high low ≡ Finite x → Change sensor s o high low (withFloat s o x)
+  level : (30 ≤ o) × (o ≤ 53) → (o - 30) % 8 ≡ 2 → levelAllowed high ≡ true
+      → Change sensor s o high low (withParameters s (parameters high (s .parameters .parameter1) (s .parameters .parameter2) (s .parameters .parameter3)))
   units : (k : ℕ) → (30 ≤ o) × (o ≤ 53) → k ≡ (o - 30) / 8 + 1 → (o - 30) % 8 ≡ 3 → unitsAllowed (idOf sensor k) high ≡ true
-      → Change sensor s o high low (withParameter s k (record { units = high; sentinel = parameterOf s k .sentinel }))
-  sentinel : (k : ℕ) (x : Float) → (30 ≤ o) × (o ≤ 53) → k ≡ (o - 30) / 8 + 1 → (o - 30) % 8 ≡ 5 → floatOf high low ≡ Finite x
-      → Change sensor s o high low (withParameter s k (record { units = parameterOf s k .units; sentinel = x }))
+      → Change sensor s o high low (withParameters s (withParameter (s .parameters) k (record { units = high; sentinel = parameterOf (s .parameters) k .sentinel })))
+  sentinel : (x : Float) → (30 ≤ o) × (o ≤ 53) → (o - 30) % 8 ≡ 5 → floatOf high low ≡ Finite x → Change sensor s o high low (withFloat s o x)
 
 -- what a write comes to
 pub data Outcome (sensor : ℕ) (s : Setup) (o high low clock : ℕ) (spare : Bool) : Written → Type 0 where
   refused : {code : ℕ} → Code code → Outcome sensor s o high low clock spare (Refused code)
   stored : {t : Setup} → Change sensor s o high low t → Outcome sensor s o high low clock spare (Stored t)
-  update : (c : Coefficients) → o ≡ 5 → high ≡ 0xE001 → s .calibrating ≡ true → spare ≡ true → judgedOf sensor (methodSet s) ≡ Accepted c
+  update : (c : Coefficients) → o ≡ 5 → high ≡ 0xE001 → s .procedure .calibrating ≡ true → spare ≡ true → judgedOf sensor (methodSet s) ≡ Accepted c
       → Outcome sensor s o high low clock spare (Updated (calibratedAt s c clock) (entryOf sensor (methodSet s) c clock))
 
 module _ (sensor : ℕ) (s : Setup) (o high low clock : ℕ) (spare : Bool) where
   abbrev P : Written → Type 0
   P = Outcome sensor s o high low clock spare
 
-  judged-outcome : o ≡ 5 → high ≡ 0xE001 → s .calibrating ≡ true → (v : Verdict) → judgedOf sensor (methodSet s) ≡ v → P (judgedUpdate sensor s clock spare v)
+  judged-outcome : o ≡ 5 → high ≡ 0xE001 → s .procedure .calibrating ≡ true → (v : Verdict) → judgedOf sensor (methodSet s) ≡ v → P (judgedUpdate sensor s clock spare v)
   judged-outcome i u m (Accepted c) e = choose P spare _ _ (λ r. update c i u m r e) (λ r. refused journal-full)
   judged-outcome i u m (OutsideLimits c) e = refused not-accepted
   judged-outcome i u m CandidateNotFinite e = refused not-accepted
@@ -65,44 +66,40 @@ module _ (sensor : ℕ) (s : Setup) (o high low clock : ℕ) (spare : Bool) wher
   command-outcome : o ≡ 5 → P (commanded sensor s high clock spare)
   unfolding commanded updated
   command-outcome i =
-      choose P (eqb high 0xE000) _ _ (λ e. choose P (s .calibrating) _ _ (λ m. stored (same i)) (λ m. stored (restart true i)))
+      choose P (eqb high 0xE000) _ _ (λ e. choose P (s .procedure .calibrating) _ _ (λ m. stored (same i)) (λ m. stored (restart true i)))
       (λ e. choose P (eqb high 0xE001) _ _
-      (λ u. choose P (s .calibrating) _ _ (λ m. judged-outcome i (eqb-true high 0xE001 u) m (judgedOf sensor (methodSet s)) refl) (λ m. refused mode-off))
-      (λ e. choose P (eqb high 0xE002) _ _ (λ e. choose P (s .calibrating) _ _ (λ m. stored (restart false i)) (λ m. stored (same i)))
+      (λ u. choose P (s .procedure .calibrating) _ _ (λ m. judged-outcome i (eqb-true high 0xE001 u) m (judgedOf sensor (methodSet s)) refl) (λ m. refused mode-off))
+      (λ e. choose P (eqb high 0xE002) _ _ (λ e. choose P (s .procedure .calibrating) _ _ (λ m. stored (restart false i)) (λ m. stored (same i)))
       (λ e. refused not-listed)))
 
-  float-outcome : (w : FloatOf → Written) → w NotFinite ≡ Refused 0x84 → ((x : Float) → floatOf high low ≡ Finite x → P (w (Finite x))) → P (w (floatOf high low))
-  float-outcome w n f = go (floatOf high low) refl
+  float-outcome : ((x : Float) → floatOf high low ≡ Finite x → Change sensor s o high low (withFloat s o x)) → P (floatWritten s o high low)
+  unfolding floatWritten
+  float-outcome f = go (floatOf high low) refl
     where
-      go : (r : FloatOf) → floatOf high low ≡ r → P (w r)
-      go (Finite x) e = f x e
-      go NotFinite e = rw n (refused not-listed)
+      go : (r : FloatOf) → floatOf high low ≡ r → P (floatStored s o r)
+      go (Finite x) e = stored (f x e)
+      go NotFinite e = refused not-listed
 
-  parameter-outcome : (k part : ℕ) → (30 ≤ o) × (o ≤ 53) → k ≡ (o - 30) / 8 + 1 → part ≡ (o - 30) % 8 → P (parameterWritten sensor s k part high low)
-  unfolding parameterWritten levelWritten unitsWritten sentinelWritten
-  parameter-outcome k part r i j =
-      choose P (eqb part 2) _ _
-      (λ e. choose P (levelAllowed high) _ _ (λ l. stored (level r (at 2 e) l)) (λ l. refused not-listed))
-      (λ e. choose P (eqb part 3) _ _
-      (λ e. choose P (unitsAllowed (idOf sensor k) high) _ _ (λ l. stored (units k r i (at 3 e) l)) (λ l. refused not-listed))
-      (λ e. choose P (eqb part 5) _ _
-      (λ e. float-outcome (sentinelStored s k) refl (λ x f. stored (sentinel k x r i (at 5 e) f)))
+  parameter-outcome : (30 ≤ o) × (o ≤ 53) → P (parameterWritten sensor s o high low)
+  unfolding parameterWritten levelWritten unitsWritten
+  parameter-outcome r =
+      choose P (eqb ((o - 30) % 8) 2) _ _
+      (λ e. choose P (levelAllowed high) _ _ (λ l. stored (level r (eqb-true ((o - 30) % 8) 2 e) l)) (λ l. refused not-listed))
+      (λ e. choose P (eqb ((o - 30) % 8) 3) _ _
+      (λ e. choose P (unitsAllowed (idOf sensor ((o - 30) / 8 + 1)) high) _ _ (λ l. stored (units _ r refl (eqb-true ((o - 30) % 8) 3 e) l)) (λ l. refused not-listed))
+      (λ e. choose P (eqb ((o - 30) % 8) 5) _ _ (λ e. float-outcome (λ x f. sentinel x r (eqb-true ((o - 30) % 8) 5 e) f))
       (λ e. refused not-listed)))
-    where
-      at : (n : ℕ) → eqb part n ≡ true → (o - 30) % 8 ≡ n
-      at n e = let p : part ≡ n = eqb-true part n e in omega arith
 
   field-outcome : P (fieldWritten sensor s o high low clock spare)
-  unfolding fieldWritten nextWritten methodWritten coefficientWritten pointWritten
+  unfolding fieldWritten nextWritten methodWritten
   field-outcome =
       choose P (eqb o 3) _ _ (λ e. stored (next (eqb-true o 3 e)))
       (λ e. choose P (eqb o 5) _ _ (λ e. command-outcome (eqb-true o 5 e))
       (λ e. choose P (eqb o 6) _ _
       (λ e. choose P (methodAllowed sensor high) _ _ (λ m. stored (method (eqb-true o 6 e) m)) (λ m. refused not-listed))
-      (λ e. choose P (leb 10 o && leb o 15) _ _ (λ e. float-outcome (coefficientStored s o) refl (λ x f. stored (coefficient x (between 10 15 e) f)))
-      (λ e. choose P (leb 16 o && leb o 23) _ _ (λ e. float-outcome (pointStored s o) refl (λ x f. stored (point x (between 16 23 e) f)))
-      (λ e. choose P (leb 30 o && leb o 53) _ _ (λ e. parameter-outcome ((o - 30) / 8 + 1) ((o - 30) % 8) (between 30 53 e) refl refl)
-      (λ e. refused not-listed))))))
+      (λ e. choose P (leb 10 o && leb o 23) _ _ (λ e. float-outcome (λ x f. float x (between 10 23 e) f))
+      (λ e. choose P (leb 30 o && leb o 53) _ _ (λ e. parameter-outcome (between 30 53 e))
+      (λ e. refused not-listed)))))
     where
       between : (a b : ℕ) → (leb a o && leb o b) ≡ true → (a ≤ o) × (o ≤ b)
       between a b e = let t = both (leb a o) (leb o b) e in (leb-true a o (t .0), leb-true o b (t .1))
@@ -112,7 +109,7 @@ pub write-outcome : (sensor : ℕ) (s : Setup) (f : Field) (high low clock : ℕ
     → Outcome sensor s (f .offset) high low clock spare (writeOf sensor s f high low clock spare)
 unfolding writeOf
 write-outcome sensor s f high low clock spare =
-    choose P (eqb (f .access) 2 && not (s .calibrating)) _ _ (λ e. refused mode-off) (λ e. field-outcome sensor s (f .offset) high low clock spare)
+    choose P (eqb (f .access) 2 && not (s .procedure .calibrating)) _ _ (λ e. refused mode-off) (λ e. field-outcome sensor s (f .offset) high low clock spare)
   where
     P : Written → Type 0
     P = Outcome sensor s (f .offset) high low clock spare

@@ -11,9 +11,9 @@ use Rattle.fields.specs.Fields.{fieldAt}
 use Rattle.sensors.specs.declared.Setup.{Setup}
 use Rattle.sensors.specs.declared.Sample.{Sample}
 use Rattle.registers.specs.Registers.{sensorRegister}
-use Rattle.writes.specs.Content.{contentOf, valueOf}
+use Rattle.writes.proofs.Content.{contentOf, writtenValue}
 use Rattle.writes.specs.Writes.{writeOf}
-use Rattle.writes.specs.declared.Written.the-variants.{Stored}
+use Rattle.commands.specs.declared.Written.the-variants.{Stored}
 use Rattle.writes.proofs.Rows.{one-word, level-sensor}
 use Rattle.writes.proofs.Contents.{Takes, effect, write-stores}
 
@@ -23,20 +23,20 @@ module _ (s : Setup) (r : ℕ) (f : Field) (found : fieldAt r ≡ Row f) (writab
   takes : Takes (r / 100) s t (f .offset) high low
   takes = effect (r / 100) s r f found writable value high low clock spare t e
 
-  stores : high < 65536 → low < 65536 → contentOf t (f .offset) ≡ valueOf f high low
+  stores : high < 65536 → low < 65536 → contentOf t (f .offset) ≡ writtenValue f high low
   stores = write-stores (r / 100) s r f found writable value high low clock spare t e
 
   -- the field's first register then reads as the first word written, whatever is measured
   pub write-shown : high < 65536 → low < 65536 → sensorRegister (r / 100) (record { setup = t; sample = x }) (f .offset) ≡ high
-  unfolding valueOf
-  write-shown hh hl = takes .first (level-sensor r f found writable) x ∙ rw (← (one-word r f found writable), stores hh hl) (go (eqb (f .words) 1))
+  unfolding writtenValue
+  write-shown hh hl = takes .high-shown (level-sensor r f found writable) x ∙ rw (← (one-word r f found writable), stores hh hl) (go (eqb (f .words) 1))
     where
       go : (b : Bool) → cond b (cond b high (pattern high low)) (cond b high (pattern high low) / 65536) ≡ high
       go true = refl
       go false = omega arith
 
   -- and the second register of a field of two words as the second
-  pub write-shown-second : high < 65536 → low < 65536 → eqb (f .words) 1 ≡ false
+  pub write-shown-low : high < 65536 → low < 65536 → eqb (f .words) 1 ≡ false
       → sensorRegister (r / 100) (record { setup = t; sample = x }) (suc (f .offset)) ≡ low
-  unfolding valueOf
-  write-shown-second hh hl w = takes .second x (sym (one-word r f found writable) ∙ w) ∙ rw (stores hh hl, w) (omega arith)
+  unfolding writtenValue
+  write-shown-low hh hl w = takes .low-shown x (sym (one-word r f found writable) ∙ w) ∙ rw (stores hh hl, w) (omega arith)

@@ -12,18 +12,19 @@ use Rattle.coefficients.specs.declared.Coefficients.{Coefficients}
 use Rattle.methods.specs.declared.Verdict.{Verdict}
 use Rattle.methods.specs.declared.Verdict.the-variants.{Accepted, OutsideLimits, NotFinite, Undefined}
 use Rattle.methods.proofs.Candidates.{accepted, accepted-fits, method-fits}
-use Rattle.entries.specs.Entries.{entryOf, validEntry, replacedBy, entryFits}
+use Rattle.entries.specs.Entries.{entryOf, validEntry, replacedBy}
 use Rattle.entries.specs.declared.Entry.{Entry}
-use Rattle.entries.proofs.Entries.{entry-method, accepted-valid, accepted-entry-fits}
+use Rattle.entries.proofs.Entries.{entryFits, entry-method, accepted-valid, accepted-entry-fits}
 use Rattle.fields.specs.declared.Field.{Field}
 use Rattle.sensors.specs.Sensors.{validSetup}
 use Rattle.sensors.specs.Changes.{calibratedAt}
 use Rattle.sensors.specs.declared.Setup.{Setup}
-use Rattle.sensors.proofs.Setups.{SetupFits, valid-setup-parts}
+use Rattle.sensors.proofs.Setups.{SetupFits, valid-procedure-parts, valid-setup-parts}
 use Rattle.sensors.proofs.Changed.{calibrated-valid, calibrated-fits}
-use Rattle.writes.specs.Writes.{methodSet, judgedUpdate, updated, commanded, fieldWritten, writeOf}
-use Rattle.writes.specs.declared.Written.{Written}
-use Rattle.writes.specs.declared.Written.the-variants.{Refused, Stored, Updated}
+use Rattle.commands.specs.Commands.{methodSet, judgedUpdate, updated, commanded}
+use Rattle.writes.specs.Writes.{fieldWritten, writeOf}
+use Rattle.commands.specs.declared.Written.{Written}
+use Rattle.commands.specs.declared.Written.the-variants.{Refused, Stored, Updated}
 use Rattle.writes.proofs.Outcomes.{Outcome, refused, stored, update, write-outcome}
 
 -- ---- what an update says
@@ -32,18 +33,18 @@ use Rattle.writes.proofs.Outcomes.{Outcome, refused, stored, update, wr
 pub record Update (sensor : ℕ) (s : Setup) (f : Field) (high clock : ℕ) (spare : Bool) (t : Setup) (e : Entry) : Type 0 where
   pub is-command : f .offset ≡ 5
   pub is-update : high ≡ 0xE001
-  pub mode-on : s .calibrating ≡ true
+  pub mode-on : s .procedure .calibrating ≡ true
   pub has-room : spare ≡ true
-  pub judged : judgedOf sensor (methodSet s) ≡ Accepted (coefficientsOf (t .active))
-  pub all-finite : allFinite (coefficientsOf (t .active)) ≡ true
-  pub in-limits : inLimits sensor (coefficientsOf (t .active)) ≡ true
-  pub time-is : t .active .time ≡ clock
-  pub setup-is : t ≡ calibratedAt s (coefficientsOf (t .active)) clock
-  pub journalled : t .active ≡ e .calibration
-  pub replaced : replacedBy (s .active) e ≡ t .active
+  pub verdict-is : judgedOf sensor (methodSet s) ≡ Accepted (coefficientsOf (t .active .calibration))
+  pub all-finite : allFinite (coefficientsOf (t .active .calibration)) ≡ true
+  pub in-limits : inLimits sensor (coefficientsOf (t .active .calibration)) ≡ true
+  pub time-is : t .active .calibration .time ≡ clock
+  pub setup-is : t ≡ calibratedAt s (coefficientsOf (t .active .calibration)) clock
+  pub journalled : t .active .calibration ≡ e .calibration
+  pub replaced : replacedBy (s .active .calibration) e ≡ t .active .calibration
   pub sensor-is : e .sensor ≡ sensor
   pub points-are : e .points ≡ pointsOf (methodSet s)
-  pub entry-is : e ≡ entryOf sensor (methodSet s) (coefficientsOf (t .active)) clock
+  pub entry-is : e ≡ entryOf sensor (methodSet s) (coefficientsOf (t .active .calibration)) clock
 
 module _ (sensor : ℕ) (s : Setup) (f : Field) (high low clock : ℕ) (spare : Bool) (t : Setup) (e : Entry) where
   -- an accepted update says all that
@@ -51,7 +52,7 @@ module _ (sensor : ℕ) (s : Setup) (f : Field) (high low clock : ℕ) (spare : 
   unfolding calibratedAt replacedBy
   update-facts w = of (write-outcome sensor s f high low clock spare) w
     where
-      made : (c : Coefficients) → f .offset ≡ 5 → high ≡ 0xE001 → s .calibrating ≡ true → spare ≡ true → judgedOf sensor (methodSet s) ≡ Accepted c
+      made : (c : Coefficients) → f .offset ≡ 5 → high ≡ 0xE001 → s .procedure .calibrating ≡ true → spare ≡ true → judgedOf sensor (methodSet s) ≡ Accepted c
           → Update sensor s f high clock spare (calibratedAt s c clock) (entryOf sensor (methodSet s) c clock)
       made c i u m r j =
           record {
@@ -59,7 +60,7 @@ module _ (sensor : ℕ) (s : Setup) (f : Field) (high low clock : ℕ) (spare : 
             is-update = u;
             mode-on = m;
             has-room = r;
-            judged = j;
+            verdict-is = j;
             all-finite = accepted sensor (methodSet s) c j .all-finite;
             in-limits = accepted sensor (methodSet s) c j .in-limits;
             time-is = refl;
@@ -86,39 +87,39 @@ module _ (sensor : ℕ) (s : Setup) (f : Field) (high low clock : ℕ) (spare : 
   pub update-valid : validSetup sensor s ≡ true → writeOf sensor s f high low clock spare ≡ Updated t e → validSetup sensor t ≡ true
   update-valid h w =
       let u = update-facts w in
-      rw (u .setup-is) (calibrated-valid sensor s h (coefficientsOf (t .active)) clock (u .all-finite) (u .in-limits))
+      rw (u .setup-is) (calibrated-valid sensor s h (coefficientsOf (t .active .calibration)) clock (u .all-finite) (u .in-limits))
 
   -- the entry is valid
   pub update-entry-valid : validSetup sensor s ≡ true → writeOf sensor s f high low clock spare ≡ Updated t e → validEntry e ≡ true
   update-entry-valid h w =
       let u = update-facts w in
-      let v = valid-setup-parts sensor s h in
-      rw (u .entry-is) (accepted-valid sensor (s .method) (s .trial) (s .points) (coefficientsOf (t .active)) clock (v .method-allowed) (v .points-finite) (u .judged))
+      let v = valid-procedure-parts sensor (s .procedure) (valid-setup-parts sensor s h .procedure-valid) in
+      rw (u .entry-is) (accepted-valid sensor (s .procedure .method) (s .procedure .trial) (s .procedure .points) (coefficientsOf (t .active .calibration)) clock (v .method-allowed) (v .points-finite) (u .verdict-is))
 
   -- it holds the method that was set
-  pub update-method : validSetup sensor s ≡ true → writeOf sensor s f high low clock spare ≡ Updated t e → e .method ≡ s .method
+  pub update-method : validSetup sensor s ≡ true → writeOf sensor s f high low clock spare ≡ Updated t e → e .method ≡ s .procedure .method
   update-method h w =
       let u = update-facts w in
-      rw (u .entry-is) (entry-method sensor (s .method) (s .trial) (s .points) (coefficientsOf (t .active)) clock (valid-setup-parts sensor s h .method-allowed))
+      rw (u .entry-is) (entry-method sensor (s .procedure .method) (s .procedure .trial) (s .procedure .points) (coefficientsOf (t .active .calibration)) clock (valid-procedure-parts sensor (s .procedure) (valid-setup-parts sensor s h .procedure-valid) .method-allowed))
 
   -- the setup stays one of the format
   pub update-fits : SetupFits s → writeOf sensor s f high low clock spare ≡ Updated t e → SetupFits t
   update-fits v w =
       let u = update-facts w in
       rw (u .setup-is)
-      (calibrated-fits s v (coefficientsOf (t .active)) clock
-      (accepted-fits sensor (methodSet s) (coefficientsOf (t .active)) (method-fits (s .method) (s .trial) (s .points) (v .fits-trial) (v .fits-points)) (u .judged)))
+      (calibrated-fits s v (coefficientsOf (t .active .calibration)) clock
+      (accepted-fits sensor (methodSet s) (coefficientsOf (t .active .calibration)) (method-fits (s .procedure .method) (s .procedure .trial) (s .procedure .points) (v .fits-procedure .fits-trial) (v .fits-procedure .fits-points)) (u .verdict-is)))
 
   -- the entry is one of the format
   pub update-entry-fits : SetupFits s → writeOf sensor s f high low clock spare ≡ Updated t e → entryFits e ≡ true
   update-entry-fits v w =
       let u = update-facts w in
-      rw (u .entry-is) (accepted-entry-fits sensor (s .method) (s .trial) (s .points) (coefficientsOf (t .active)) clock (v .fits-trial) (v .fits-points) (u .judged))
+      rw (u .entry-is) (accepted-entry-fits sensor (s .procedure .method) (s .procedure .trial) (s .procedure .points) (coefficientsOf (t .active .calibration)) clock (v .fits-procedure .fits-trial) (v .fits-procedure .fits-points) (u .verdict-is))
 
 -- ---- no update is refused without a reason
 
 -- an update in mode, of an accepted candidate and with room in the journal, is carried out
-pub update-accepted : (sensor : ℕ) (s : Setup) (f : Field) (low clock : ℕ) (c : Coefficients) → f .offset ≡ 5 → f .access ≡ 1 → s .calibrating ≡ true
+pub update-accepted : (sensor : ℕ) (s : Setup) (f : Field) (low clock : ℕ) (c : Coefficients) → f .offset ≡ 5 → f .access ≡ 1 → s .procedure .calibrating ≡ true
     → judgedOf sensor (methodSet s) ≡ Accepted c
     → writeOf sensor s f 0xE001 low clock true ≡ Updated (calibratedAt s c clock) (entryOf sensor (methodSet s) c clock)
 unfolding writeOf fieldWritten commanded updated
@@ -129,8 +130,8 @@ pub update-stores-none : (sensor : ℕ) (s : Setup) (f : Field) (low clock : ℕ
     → writeOf sensor s f 0xE001 low clock spare ≡ Stored t → ⊥
 unfolding writeOf fieldWritten commanded updated
 update-stores-none sensor s f low clock spare t o =
-    rw o (choose P (eqb (f .access) 2 && not (s .calibrating)) _ _ (λ e. no-code)
-    (λ e. choose P (s .calibrating) _ _ (λ e. judged (judgedOf sensor (methodSet s))) (λ e. no-code)))
+    rw o (choose P (eqb (f .access) 2 && not (s .procedure .calibrating)) _ _ (λ e. no-code)
+    (λ e. choose P (s .procedure .calibrating) _ _ (λ e. judged (judgedOf sensor (methodSet s))) (λ e. no-code)))
   where
     P : Written → Type 0
     P w = w ≡ Stored t → ⊥
@@ -158,11 +159,11 @@ choose-two false x y x' y' f g = g
 by-spare : (sensor : ℕ) (s : Setup) (f : Field) (high low clock : ℕ) → BySpare (writeOf sensor s f high low clock true) (writeOf sensor s f high low clock false)
 unfolding writeOf fieldWritten commanded updated
 by-spare sensor s f high low clock =
-    choose-two (eqb (f .access) 2 && not (s .calibrating)) _ _ _ _ equal
+    choose-two (eqb (f .access) 2 && not (s .procedure .calibrating)) _ _ _ _ equal
     (choose-two (eqb (f .offset) 3) _ _ _ _ equal
     (choose-two (eqb (f .offset) 5) _ _ _ _
     (choose-two (eqb high 0xE000) _ _ _ _ equal
-    (choose-two (eqb high 0xE001) _ _ _ _ (choose-two (s .calibrating) _ _ _ _ (judged (judgedOf sensor (methodSet s))) equal) equal))
+    (choose-two (eqb high 0xE001) _ _ _ _ (choose-two (s .procedure .calibrating) _ _ _ _ (judged (judgedOf sensor (methodSet s))) equal) equal))
     equal))
   where
     judged : (v : Verdict) → BySpare (judgedUpdate sensor s clock true v) (judgedUpdate sensor s clock false v)

@@ -1,96 +1,36 @@
-// What a write of one whole field does to a sensor's setup: refused by a code, the new setup, or for an update the new setup and the entry
-// to append.
+// What a write of one whole field does to a sensor's setup.
 ghost use mathlib.Core.Path.{_≡_};
-ghost use Rattle.writes.specs.Writes.{updated, commanded, nextWritten, methodWritten, trialAt, coefficientWritten, pointAt, pointWritten, levelWritten, unitsWritten, sentinelWritten, parameterWritten, fieldWritten, writeOf, codeOf};
+ghost use Prim.Native.Nat.{_≤_};
+ghost use Rattle.writes.specs.Writes.{nextWritten, methodWritten, trialAt, pointAt, sentinelAt, withFloat, floatWritten, levelWritten, unitsWritten, parameterWritten, fieldWritten, writeOf};
 use coefficients::Coefficients;
-use entries::Entry;
-use entries::entry_of;
+use commands::Written;
+use commands::command;
 use entries::method_allowed;
 use fields::Field;
 use fields::MODAL;
 use floats::FloatOf;
 use methods::Points;
-use methods::Verdict;
-use methods::judge;
-use methods::method_of;
 use refusals::codes;
+use sensors::Parameters;
 use sensors::Setup;
 
-pub enum Written {
-    Refused(u8),
-    Stored(Setup),
-    Updated(Setup, Entry),
-}
-
-// 0, or the code that refuses the write.
-pub fn code_of(w: Written) -> u8
-    ensures { λ r. ⌜ r ≡ codeOf w ⌝ }
-{
-    match w {
-        Written::Refused(code) => code,
-        Written::Stored(_) => 0,
-        Written::Updated(_, _) => 0,
-    }
-}
-
-// Command 0xE001.
-fn update(sensor: u16, s: Setup, clock: u32, spare: bool) -> Written
-    ensures { λ r. ⌜ r ≡ updated sensor s clock spare ⌝ }
-{
-    let calibrating = s.calibrating;
-    if !calibrating {
-        return Written::Refused(codes::SENSOR_MODE);
-    }
-    let m = method_of(s.method, s.trial, s.points);
-    let verdict = judge(sensor, m);
-    match verdict {
-        Verdict::Accepted(c) => {
-            if !spare {
-                return Written::Refused(codes::JOURNAL_FULL);
-            }
-            Written::Updated(s.calibrate(c, clock), entry_of(sensor, m, c, clock))
-        }
-        _ => Written::Refused(methods::code_of(verdict)),
-    }
-}
-
-// The command register.
-fn command(sensor: u16, s: Setup, value: u16, clock: u32, spare: bool) -> Written
-    ensures { λ r. ⌜ r ≡ commanded sensor s value clock spare ⌝ }
-{
-    let calibrating = s.calibrating;
-    match value {
-        0xE000 => {
-            if calibrating {
-                return Written::Stored(s);
-            }
-            Written::Stored(s.restart(true))
-        }
-        0xE001 => update(sensor, s, clock, spare),
-        0xE002 => {
-            if calibrating {
-                return Written::Stored(s.restart(false));
-            }
-            Written::Stored(s)
-        }
-        _ => Written::Refused(codes::WRITE_VALUE),
-    }
-}
-
 // The next calibration's time.
-fn write_next(s: Setup, high: u16, low: u16) -> Written
+fn write_next(mut s: Setup, high: u16, low: u16) -> Written
     ensures { λ r. ⌜ r ≡ nextWritten s high low ⌝ }
 {
-    Written::Stored(s.with_next((high as u32) * 65536 + (low as u32)))
+    let next = (high as u32) * 65536 + (low as u32);
+    s.active.next = next;
+    Written::Stored(s)
 }
 
-fn write_method(sensor: u16, s: Setup, value: u16) -> Written
+fn write_method(sensor: u16, mut s: Setup, value: u16) -> Written
     ensures { λ r. ⌜ r ≡ methodWritten sensor s value ⌝ }
 {
     if !method_allowed(sensor, value) {
         return Written::Refused(codes::WRITE_VALUE);
     }
-    Written::Stored(s.with_method(value))
+    s.procedure.method = value;
+    Written::Stored(s)
 }
 
 // The trial coefficients with the one at this offset replaced.
@@ -98,24 +38,11 @@ fn trial_at(mut c: Coefficients, offset: u16, x: f32) -> Coefficients
     ensures { λ r. ⌜ r ≡ trialAt c offset x ⌝ }
 {
     match offset {
-        10 => c.first = x,
-        12 => c.second = x,
-        _ => c.third = x,
+        10 => c.coefficient1 = x,
+        12 => c.coefficient2 = x,
+        _ => c.coefficient3 = x,
     }
     c
-}
-
-fn write_coefficient(s: Setup, offset: u16, high: u16, low: u16) -> Written
-    ensures { λ r. ⌜ r ≡ coefficientWritten s offset high low ⌝ }
-{
-    let value = floats::float_of(high, low);
-    match value {
-        FloatOf::Finite(x) => {
-            let trial = trial_at(s.trial, offset, x);
-            Written::Stored(s.with_trial(trial))
-        }
-        FloatOf::NotFinite => Written::Refused(floats::code_of(value)),
-    }
 }
 
 // The points with the value at this offset replaced.
@@ -131,63 +58,86 @@ fn point_at(mut p: Points, offset: u16, x: f32) -> Points
     p
 }
 
-fn write_point(s: Setup, offset: u16, high: u16, low: u16) -> Written
-    ensures { λ r. ⌜ r ≡ pointWritten s offset high low ⌝ }
+// The parameters with the sentinel at this offset replaced.
+fn sentinel_at(mut q: Parameters, offset: u16, x: f32) -> Parameters
+    ensures { λ r. ⌜ r ≡ sentinelAt q offset x ⌝ }
+{
+    match offset {
+        35 => q.parameter1.sentinel = x,
+        43 => q.parameter2.sentinel = x,
+        _ => q.parameter3.sentinel = x,
+    }
+    q
+}
+
+// The setup with the float at this offset replaced: a trial coefficient, a value of the points, or a sentinel.
+fn with_float(mut s: Setup, offset: u16, x: f32) -> Setup
+    ensures { λ r. ⌜ r ≡ withFloat s offset x ⌝ }
+{
+    let mut p = s.procedure;
+    if offset < 16 {
+        let trial = trial_at(p.trial, offset, x);
+        p.trial = trial;
+        s.procedure = p;
+        return s;
+    }
+    if offset < 24 {
+        let points = point_at(p.points, offset, x);
+        p.points = points;
+        s.procedure = p;
+        return s;
+    }
+    let q = sentinel_at(s.parameters, offset, x);
+    s.parameters = q;
+    s
+}
+
+fn write_float(s: Setup, offset: u16, high: u16, low: u16) -> Written
+    ensures { λ r. ⌜ r ≡ floatWritten s offset high low ⌝ }
 {
     let value = floats::float_of(high, low);
     match value {
-        FloatOf::Finite(x) => {
-            let points = point_at(s.points, offset, x);
-            Written::Stored(s.with_points(points))
-        }
+        FloatOf::Finite(x) => Written::Stored(with_float(s, offset, x)),
         FloatOf::NotFinite => Written::Refused(floats::code_of(value)),
     }
 }
 
 // The id of the level.
-fn write_level(s: Setup, value: u16) -> Written
+fn write_level(mut s: Setup, value: u16) -> Written
     ensures { λ r. ⌜ r ≡ levelWritten s value ⌝ }
 {
     if !parameters::level_allowed(value) {
         return Written::Refused(codes::WRITE_VALUE);
     }
-    Written::Stored(s.with_level(value))
+    s.parameters.level = value;
+    Written::Stored(s)
 }
 
-fn write_units(sensor: u16, s: Setup, k: u16, value: u16) -> Written
+fn write_units(sensor: u16, mut s: Setup, k: u16, value: u16) -> Written
     ensures { λ r. ⌜ r ≡ unitsWritten sensor s k value ⌝ }
 {
     let id = parameters::parameter_id(sensor, k);
     if !parameters::units_allowed(id, value) {
         return Written::Refused(codes::WRITE_VALUE);
     }
-    let mut p = s.parameter(k);
+    let q = s.parameters;
+    let mut p = q.parameter(k);
     p.units = value;
-    Written::Stored(s.with_parameter(k, p))
+    let parameters = q.with_parameter(k, p);
+    s.parameters = parameters;
+    Written::Stored(s)
 }
 
-fn write_sentinel(s: Setup, k: u16, high: u16, low: u16) -> Written
-    ensures { λ r. ⌜ r ≡ sentinelWritten s k high low ⌝ }
+// A register of a parameter. No field that can be written is at a part other than 2, 3 and 5.
+fn write_parameter(sensor: u16, s: Setup, offset: u16, high: u16, low: u16) -> Written
+    requires { ⌜ 30 ≤ offset ⌝ }
+    ensures { λ r. ⌜ r ≡ parameterWritten sensor s offset high low ⌝ }
 {
-    let value = floats::float_of(high, low);
-    match value {
-        FloatOf::Finite(x) => {
-            let mut p = s.parameter(k);
-            p.sentinel = x;
-            Written::Stored(s.with_parameter(k, p))
-        }
-        FloatOf::NotFinite => Written::Refused(floats::code_of(value)),
-    }
-}
-
-// A part of parameter k. No field that can be written is at a part other than 2, 3 and 5.
-fn write_parameter(sensor: u16, s: Setup, k: u16, part: u16, high: u16, low: u16) -> Written
-    ensures { λ r. ⌜ r ≡ parameterWritten sensor s k part high low ⌝ }
-{
+    let part = (offset - 30) % 8;
     match part {
         2 => write_level(s, high),
-        3 => write_units(sensor, s, k, high),
-        5 => write_sentinel(s, k, high, low),
+        3 => write_units(sensor, s, (offset - 30) / 8 + 1, high),
+        5 => write_float(s, offset, high, low),
         _ => Written::Refused(codes::WRITE_VALUE),
     }
 }
@@ -208,18 +158,8 @@ fn write_field(
         3 => write_next(s, high, low),
         5 => command(sensor, s, high, clock, spare),
         6 => write_method(sensor, s, high),
-        10..=15 => write_coefficient(s, offset, high, low),
-        16..=23 => write_point(s, offset, high, low),
-        30..=53 => {
-            write_parameter(
-                sensor,
-                s,
-                (offset - 30) / 8 + 1,
-                (offset - 30) % 8,
-                high,
-                low,
-            )
-        }
+        10..=23 => write_float(s, offset, high, low),
+        30..=53 => write_parameter(sensor, s, offset, high, low),
         _ => Written::Refused(codes::WRITE_VALUE),
     }
 }
@@ -237,7 +177,7 @@ pub fn write(
 ) -> Written
     ensures { λ r. ⌜ r ≡ writeOf sensor s field high low clock spare ⌝ }
 {
-    let calibrating = s.calibrating;
+    let calibrating = s.procedure.calibrating;
     if (field.access == MODAL) & !calibrating {
         return Written::Refused(codes::SENSOR_MODE);
     }

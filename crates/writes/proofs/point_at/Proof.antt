@@ -1,4 +1,4 @@
--- `writes::point_at` meets its contract. Assumes nothing.
+-- Assumes nothing.
 use borrow.Author.Tests.{ne-eqb}
 use Rattle.writes.specs.Writes.{pointAt}
 use Rattle.writes.proofs.point_at.Statement.{statement}

@@ -1,4 +1,4 @@
--- `writes::trial_at` meets its contract. Assumes nothing.
+-- Assumes nothing.
 use borrow.Author.Tests.{ne-eqb}
 use Rattle.writes.specs.Writes.{trialAt}
 use Rattle.writes.proofs.trial_at.Statement.{statement}

@@ -1,4 +1,4 @@
--- `writes::write` meets its contract. Assumes nothing.
+-- Assumes nothing.
 use Rattle.writes.specs.Writes.{writeOf}
 use borrow.Author.Needs.{needs}
 use Rattle.writes.proofs.write.Statement.{statement}

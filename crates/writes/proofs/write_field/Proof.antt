@@ -1,7 +1,7 @@
--- `writes::write_field` meets its contract. Assumes nothing.
+-- The ranges of the match are those of the definition (Ranges). Assumes nothing.
 use Rattle.writes.specs.Writes.{fieldWritten}
 use borrow.Author.Needs.{needs}
-use Rattle.writes.proofs.Ranges.{at-coefficients, at-points, at-parameters, below-ten, below-thirty, past}
+use Rattle.writes.proofs.Ranges.{at-floats, at-parameters, below-ten, below-thirty, past}
 use Rattle.writes.proofs.write_field.Statement.{statement}
 use Rattle.writes.proofs.write_field.Tie as tie
 
@@ -20,33 +20,28 @@ returns-3 c = simp (c .before .match .keys3, ← c .write-method .ensures)
 returns-4 : tie.Need-returns-4
 returns-4 c =
     let a = c .before .before .before .before .args in
-    rw (at-coefficients (a .sensor) (a .s) (a .offset) (a .high) (a .low) (a .clock) (a .spare) (c .before .before .if1 .left) (c .before .if2 .taken)) (c .write-coefficient .ensures)
+    rw (at-floats (a .sensor) (a .s) (a .offset) (a .high) (a .low) (a .clock) (a .spare) (c .before .before .if1 .left) (c .before .if2 .taken)) (c .write-float .ensures)
 
 returns-5 : tie.Need-returns-5
 returns-5 c =
-    let a = c .before .before .before .before .before .args in
-    rw (at-points (a .sensor) (a .s) (a .offset) (a .high) (a .low) (a .clock) (a .spare) (c .before .before .if2 .left) (c .before .if3 .taken)) (c .write-point .ensures)
+    let a = c .before .before .before .before .before .before .args in
+    rw (at-parameters (a .sensor) (a .s) (a .offset) (a .high) (a .low) (a .clock) (a .spare) (c .before .before .if3 .left) (c .before .if4 .taken)) (c .write-parameter .ensures)
 
 returns-6 : tie.Need-returns-6
 returns-6 c =
-    let a = c .before .before .before .before .before .before .before .args in
-    rw (at-parameters (a .sensor) (a .s) (a .offset) (a .high) (a .low) (a .clock) (a .spare) (c .before .before .if4 .left) (c .before .if5 .taken)) (c .write-parameter .ensures)
-
-returns-7 : tie.Need-returns-7
-returns-7 c =
     let a = c .before .before .args in
     let r = c .before .match .rest in
     rw (below-ten (a .sensor) (a .s) (a .offset) (a .high) (a .low) (a .clock) (a .spare) (c .if1 .taken) (r .0 .0 .1) (r .0 .1) (r .1))
 
+returns-7 : tie.Need-returns-7
+returns-7 c =
+    let a = c .before .before .before .before .args in
+    rw (below-thirty (a .sensor) (a .s) (a .offset) (a .high) (a .low) (a .clock) (a .spare) (c .before .if2 .left) (c .if3 .taken))
+
 returns-8 : tie.Need-returns-8
 returns-8 c =
     let a = c .before .before .before .before .before .args in
-    rw (below-thirty (a .sensor) (a .s) (a .offset) (a .high) (a .low) (a .clock) (a .spare) (c .before .if3 .left) (c .if4 .taken))
-
-returns-9 : tie.Need-returns-9
-returns-9 c =
-    let a = c .before .before .before .before .before .before .args in
-    rw (past (a .sensor) (a .s) (a .offset) (a .high) (a .low) (a .clock) (a .spare) (c .if5 .left))
+    rw (past (a .sensor) (a .s) (a .offset) (a .high) (a .low) (a .clock) (a .spare) (c .if4 .left))
 
 pub write-field-spec : {M : Type 1} → statement M
 write-field-spec =
@@ -57,8 +52,6 @@ write-field-spec =
     (λ c κs. search needs)
     (λ c κs. search needs)
     (λ c κs. search needs)
-    (λ c. search needs)
-    (λ c κs. search needs)
     returns
     returns-2
     returns-3
@@ -66,5 +59,4 @@ write-field-spec =
     returns-5
     returns-6
     returns-7
-    returns-8
-    returns-9)
+    returns-8)

@@ -1,4 +1,4 @@
--- `writes::write_level` meets its contract. Assumes nothing.
+-- Assumes nothing.
 use borrow.Author.Tests.{not-false, not-true}
 use Rattle.writes.specs.Writes.{levelWritten}
 use borrow.Author.Needs.{needs}
@@ -11,8 +11,7 @@ returns c = simp (← c .before .level-allowed .ensures, not-true (c .before .le
 
 returns-2 : tie.Need-returns-2
 unfolding levelWritten
-returns-2 c = simp (← c .before .before .level-allowed .ensures, not-false (c .before .before .level-allowed .result) (c .before .if1 .left), ← c .with-level .ensures)
+returns-2 c = simp (← c .before .before .level-allowed .ensures, not-false (c .before .before .level-allowed .result) (c .before .if1 .left))
 
 pub write-level-spec : {M : Type 1} → statement M
-write-level-spec =
-    tie.close (tie.spec (λ c κs. search needs) returns (λ c κs. search needs) returns-2)
+write-level-spec = tie.close (tie.spec (λ c κs. search needs) returns returns-2)

@@ -1,4 +1,4 @@
--- `writes::write_method` meets its contract. Assumes nothing.
+-- Assumes nothing.
 use borrow.Author.Tests.{not-false, not-true}
 use Rattle.writes.specs.Writes.{methodWritten}
 use borrow.Author.Needs.{needs}
@@ -11,8 +11,7 @@ returns c = simp (← c .before .method-allowed .ensures, not-true (c .before .m
 
 returns-2 : tie.Need-returns-2
 unfolding methodWritten
-returns-2 c = simp (← c .before .before .method-allowed .ensures, not-false (c .before .before .method-allowed .result) (c .before .if1 .left), ← c .with-method .ensures)
+returns-2 c = simp (← c .before .before .method-allowed .ensures, not-false (c .before .before .method-allowed .result) (c .before .if1 .left))
 
 pub write-method-spec : {M : Type 1} → statement M
-write-method-spec =
-    tie.close (tie.spec (λ c κs. search needs) returns (λ c κs. search needs) returns-2)
+write-method-spec = tie.close (tie.spec (λ c κs. search needs) returns returns-2)

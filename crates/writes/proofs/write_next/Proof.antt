@@ -1,4 +1,4 @@
--- `writes::write_next` meets its contract. Assumes nothing.
+-- Assumes nothing.
 use Rattle.writes.specs.Writes.{nextWritten}
 use borrow.Author.Needs.{needs}
 use Rattle.writes.proofs.write_next.Statement.{statement}
@@ -9,4 +9,4 @@ unfolding nextWritten
 returns c = search needs
 
 pub write-next-spec : {M : Type 1} → statement M
-write-next-spec = tie.close (tie.spec (λ c. search needs) (λ c. search needs) (λ c κs. search needs) returns)
+write-next-spec = tie.close (tie.spec (λ c. search needs) (λ c. search needs) returns)

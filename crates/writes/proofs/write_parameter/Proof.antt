@@ -1,4 +1,4 @@
--- `writes::write_parameter` meets its contract. Assumes nothing.
+-- Assumes nothing.
 use borrow.Author.Tests.{ne-eqb}
 use Rattle.writes.specs.Writes.{parameterWritten}
 use borrow.Author.Needs.{needs}
@@ -15,7 +15,7 @@ returns-2 c = simp (c .before .match .keys2, ← c .write-units .ensures)
 
 returns-3 : tie.Need-returns-3
 unfolding parameterWritten
-returns-3 c = simp (c .before .match .keys3, ← c .write-sentinel .ensures)
+returns-3 c = simp (c .before .match .keys3, ← c .write-float .ensures)
 
 returns-4 : tie.Need-returns-4
 unfolding parameterWritten
@@ -25,7 +25,10 @@ pub write-parameter-spec : {M : Type 1} → statement M
 write-parameter-spec =
     tie.close
     (tie.spec
+    (λ c. search needs)
     (λ c κs. search needs)
+    (λ c. search needs)
+    (λ c. search needs)
     (λ c κs. search needs)
     (λ c κs. search needs)
     returns

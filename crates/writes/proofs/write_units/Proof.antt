@@ -1,4 +1,4 @@
--- `writes::write_units` meets its contract. Assumes nothing.
+-- Assumes nothing.
 use borrow.Author.Tests.{not-false, not-true}
 use Rattle.writes.specs.Writes.{unitsWritten}
 use borrow.Author.Needs.{needs}
@@ -11,12 +11,7 @@ returns c = simp (← c .before .before .parameter-id .ensures, ← c .before .u
 
 returns-2 : tie.Need-returns-2
 unfolding unitsWritten
-returns-2 c =
-    let a = c .before in
-    let b = a .before in
-    let d = b .before in
-    let e = d .before in
-    simp (← e .parameter-id .ensures, ← d .units-allowed .ensures, not-false (d .units-allowed .result) (b .if1 .left), ← a .parameter .ensures, ← c .with-parameter .ensures)
+returns-2 c = simp (← c .before .before .before .before .before .parameter-id .ensures, ← c .before .before .before .before .units-allowed .ensures, not-false (c .before .before .before .before .units-allowed .result) (c .before .before .before .if1 .left), ← c .before .parameter .ensures, ← c .with-parameter .ensures)
 
 pub write-units-spec : {M : Type 1} → statement M
 write-units-spec =

@@ -1,4 +1,4 @@
--- `writes::update` meets its contract. Assumes nothing.
+-- The tests stand in the order of the definition; a verdict that is not accepted is refused by its code. Assumes nothing.
 use mathlib.Core.Path.{_≡_, refl}
 use mathlib.Core.Bool.{Bool, true, false, not, cond}
 use mathlib.Core.List.{[], _∷_}
@@ -11,11 +11,11 @@ use Rattle.methods.specs.declared.Verdict.{Verdict}
 use Rattle.methods.specs.declared.Verdict.the-variants.{Accepted, OutsideLimits, NotFinite, Undefined}
 use Rattle.methods.proofs.Verdict.{the-type}
 use Rattle.sensors.specs.declared.Setup.{Setup}
-use Rattle.writes.specs.Writes.{judgedUpdate, updated}
-use Rattle.writes.specs.declared.Written.{Written}
-use Rattle.writes.specs.declared.Written.the-variants.{Refused}
-use Rattle.writes.proofs.update.Statement.{statement}
-use Rattle.writes.proofs.update.Tie as tie
+use Rattle.commands.specs.Commands.{judgedUpdate, updated}
+use Rattle.commands.specs.declared.Written.{Written}
+use Rattle.commands.specs.declared.Written.the-variants.{Refused}
+use Rattle.commands.proofs.update.Statement.{statement}
+use Rattle.commands.proofs.update.Tie as tie
 
 -- a choice by the negated test
 turned : (b : Bool) (x y : Written) → cond b x y ≡ cond (not b) y x
@@ -31,7 +31,7 @@ refused sensor s clock spare Undefined h = refl
 
 returns : tie.Need-returns
 unfolding updated
-returns c = simp (turned (c .before .args .s .calibrating), c .if1 .taken)
+returns c = simp (turned (c .before .before .args .s .procedure .calibrating), c .if1 .taken)
 
 returns-2 : tie.Need-returns-2
 unfolding updated
@@ -41,7 +41,7 @@ returns-2 c =
     let d = b .before in
     let e = d .before in
     let f = e .before in
-    simp (turned (f .args .s .calibrating), e .if1 .left, ← d .method-of .ensures, ← b .judge .ensures, a .verdict .given .1, turned (f .args .spare), c .if2 .taken)
+    simp (turned (f .before .args .s .procedure .calibrating), e .if1 .left, ← d .method-of .ensures, ← b .judge .ensures, a .verdict .given .1, turned (f .before .args .spare), c .if2 .taken)
 
 returns-3 : tie.Need-returns-3
 unfolding updated
@@ -53,7 +53,7 @@ returns-3 c =
     let f = e .before in
     let g = f .before in
     let h = g .before in
-    simp (turned (h .args .s .calibrating), g .if1 .left, ← f .method-of .ensures, ← e .judge .ensures, d .verdict .given .1, turned (h .args .spare), b .if2 .left, ← a .calibrate .ensures, ← c .entry-of .ensures)
+    simp (turned (h .before .args .s .procedure .calibrating), g .if1 .left, ← f .method-of .ensures, ← e .judge .ensures, d .verdict .given .1, turned (h .before .args .spare), b .if2 .left, ← a .calibrate .ensures, ← c .entry-of .ensures)
 
 returns-4 : tie.Need-returns-4
 unfolding updated
@@ -62,8 +62,8 @@ returns-4 c =
     let b = a .before in
     let d = b .before in
     let e = d .before in
-    let x = e .before .args in
-    simp (turned (x .s .calibrating), e .if1 .left, ← d .method-of .ensures, ← b .judge .ensures, refused (x .sensor) (x .s) (x .clock) (x .spare) (b .judge .result) (a .match .keys2), c .code-of .ensures)
+    let x = e .before .before .args in
+    simp (turned (x .s .procedure .calibrating), e .if1 .left, ← d .method-of .ensures, ← b .judge .ensures, refused (x .sensor) (x .s) (x .clock) (x .spare) (b .judge .result) (a .match .keys2), c .code-of .ensures)
 
 pub update-spec : {M : Type 1} → statement M
 update-spec =

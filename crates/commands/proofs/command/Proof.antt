@@ -1,9 +1,9 @@
--- `writes::command` meets its contract. Assumes nothing.
+-- Assumes nothing.
 use borrow.Author.Tests.{ne-eqb}
-use Rattle.writes.specs.Writes.{commanded}
+use Rattle.commands.specs.Commands.{commanded}
 use borrow.Author.Needs.{needs}
-use Rattle.writes.proofs.command.Statement.{statement}
-use Rattle.writes.proofs.command.Tie as tie
+use Rattle.commands.proofs.command.Statement.{statement}
+use Rattle.commands.proofs.command.Tie as tie
 
 returns : tie.Need-returns
 unfolding commanded
