@@ -14,19 +14,20 @@ use Rattle.floats.proofs.Bools.{no, choose}
 use Rattle.coefficients.specs.Coefficients.{coefficientsOf}
 use Rattle.coefficients.specs.declared.Calibration.{Calibration}
 use Rattle.coefficients.proofs.Bits.{CoefficientsFit}
-use Rattle.entries.specs.Entries.{calibrationFits}
-use Rattle.journal.specs.Journal.{IsSensor, openingOf, validOpening}
-use Rattle.journal.specs.Stores.{beginOf as beginWords, begun}
+use Rattle.entries.specs.Entries.{validCalibration}
+use Rattle.entries.proofs.Entries.{calibrationFits}
+use Rattle.journal.specs.Journal.{IsSensor, ofSensor}
+use Rattle.journal.specs.Stores.{beginWords, newJournal}
 use Rattle.journal.proofs.Tests.{sensor-cases, four-intro}
 use Rattle.journal.proofs.Holds.{begin-holds}
 use Rattle.audit.specs.Audit.{replayed}
-use Rattle.sensors.specs.Changes.{calibratedAt}
+use Rattle.sensors.specs.Sensors.{poweredSetup}
 use Rattle.sensors.specs.declared.Setup.{Setup}
 use Rattle.sensors.proofs.Setups.{valid-setup-parts}
 use Rattle.state.specs.Sonde.{setupAt, addressValid, validSonde}
 use Rattle.state.specs.declared.Sonde.{Sonde}
 use Rattle.calls.specs.Agrees.{openings}
-use Rattle.calls.specs.Calls.{unmade, freshOf, Begun, beginOf, rawsFinite, measureOf, poweredSetup, powerUpOf}
+use Rattle.calls.specs.Calls.{unmade, freshOf, Begun, beginOf, rawsFinite, measureOf, powerUpOf}
 use Rattle.calls.specs.declared.SondeMade.{SondeMade}
 use Rattle.agreement.specs.Model.{Model, model, setupOf, actives, modelStart, modelBegin, poweredSetups, modelPowerUp}
 use Rattle.agreement.specs.Runs.{Call, State, state, numberOf, after, start, modelAfter}
@@ -44,29 +45,29 @@ pub record Keeps (x : State) (b : Model) (c : Call) : Type 0 where
 -- ---- measure
 
 -- "Measure: nothing", whatever the sensor and the raws
-pub measure-keeps : {x : State} {b : Model} → Invariant x b → (s : ℕ) (present : Bool) (first second : Float) → Keeps x b (Measure s present first second)
+pub measure-keeps : {x : State} {b : Model} → Invariant x b → (s : ℕ) (present : Bool) (raw1 raw2 : Float) → Keeps x b (Measure s present raw1 raw2)
 unfolding numberOf after modelAfter noted measureOf
-measure-keeps {x} {b} h s present first second = record { never-four = go .0; invariant = go .1; entries = refl }
+measure-keeps {x} {b} h s present raw1 raw2 = record { never-four = go .0; invariant = go .1; entries = refl }
   where
     P : SondeMade → Type 0
     P r = (not (eqb (r .number) 4) ≡ true) × Invariant (state (r .sonde) (x .volume)) b
 
-    go : P (measureOf (x .sonde) s present first second)
+    go : P (measureOf (x .sonde) s present raw1 raw2)
     go =
         choose P (validSonde (x .sonde)) _ _
         (λ v. choose P (ltb s 1) _ _ (λ l. (refl, h))
         (λ l. choose P (ltb 4 s) _ _ (λ g. (refl, h))
-        (λ g. choose P (rawsFinite s present first second) _ _
-        (λ f. (refl, record { matches = measured (h .matches) s (ltb-false s 1 l, ltb-false 4 s g) present first second f; holds = h .holds; followed = h .followed }))
+        (λ g. choose P (rawsFinite s present raw1 raw2) _ _
+        (λ f. (refl, record { matches = measured (h .matches) s (ltb-false s 1 l, ltb-false 4 s g) present raw1 raw2 f; holds = h .holds; followed = h .followed }))
         (λ f. (refl, h)))))
         (λ v. absurd (no (sym v ∙ sonde-valid (h .matches))))
 
 -- ---- power-up
 
 -- a power-up leaves what is in force
-setup-powered : (ys : List Setup) (s : ℕ) → IsSensor s → setupOf (poweredSetups ys) s .active ≡ setupOf ys s .active
-unfolding poweredSetups setupOf poweredSetup calibratedAt
-setup-powered ys = sensor-cases (λ s. setupOf (poweredSetups ys) s .active ≡ setupOf ys s .active) refl refl refl refl
+setup-powered : (ys : List Setup) (s : ℕ) → IsSensor s → setupOf (poweredSetups ys) s .active .calibration ≡ setupOf ys s .active .calibration
+unfolding poweredSetups setupOf poweredSetup
+setup-powered ys = sensor-cases (λ s. setupOf (poweredSetups ys) s .active .calibration ≡ setupOf ys s .active .calibration) refl refl refl refl
 
 -- the calibrations that the volume gives are the book's
 pub power-up-keeps : {x : State} {b : Model} → Invariant x b → (address : ℕ) → Keeps x b (PowerUp address)
@@ -94,30 +95,30 @@ power-up-keeps {x} {b} h address = go (addressValid address) refl
 all-fit : (c : Calibration) → CoefficientsFit (coefficientsOf c) → calibrationFits c ≡ true
 unfolding calibrationFits
 all-fit c f =
-    rw (is-true (fits binary32 (c .first)) (f .fits-first), is-true (fits binary32 (c .second)) (f .fits-second), is-true (fits binary32 (c .third)) (f .fits-third))
+    rw (is-true (fits binary32 (c .coefficient1)) (f .fits-coefficient1), is-true (fits binary32 (c .coefficient2)) (f .fits-coefficient2), is-true (fits binary32 (c .coefficient3)) (f .fits-coefficient3))
 
 -- a sonde that matches, with a volume just begun
 begin-invariant : {d : Sonde} {address : ℕ} {ys : List Setup} → Matches d address ys → (w : List ℕ) → 88 ≤ length w
-    → Invariant (state d (beginWords w (openings d))) (model address ys (begun (actives ys) (length w)))
-unfolding validOpening openings actives
+    → Invariant (state d (beginWords w (openings d))) (model address ys (newJournal (actives ys) (length w)))
+unfolding validCalibration openings actives
 begin-invariant {d} {address} {ys} m w l =
     rw (← same)
     (record {
       matches = m;
       holds =
-          begin-holds w (openings d) l (four-intro (λ s. validOpening s (openingOf (openings d) s)) opens)
-          (four-intro (λ s. calibrationFits (openingOf (openings d) s)) fit);
-      followed = λ s k. opening-at d s k ∙ ap (λ (y : Setup). y .active) (setup-same m s k);
+          begin-holds w (openings d) l (four-intro (λ s. validCalibration s (ofSensor (openings d) s)) opens)
+          (four-intro (λ s. calibrationFits (ofSensor (openings d) s)) fit);
+      followed = λ s k. opening-at d s k ∙ ap (λ (y : Setup). y .active .calibration) (setup-same m s k);
     })
   where
     same : openings d ≡ actives ys
     same = rw (setup-same m 1 (omega arith), setup-same m 2 (omega arith), setup-same m 3 (omega arith), setup-same m 4 (omega arith))
 
-    opens : (s : ℕ) → IsSensor s → validOpening s (openingOf (openings d) s) ≡ true
-    opens s k = let v = valid-setup-parts s (setupAt d s) (setup-valid m s k) in rw (opening-at d s k, v .active-finite, v .in-limits)
+    opens : (s : ℕ) → IsSensor s → validCalibration s (ofSensor (openings d) s) ≡ true
+    opens s k = rw (opening-at d s k) (valid-setup-parts s (setupAt d s) (setup-valid m s k) .calibration-valid)
 
-    fit : (s : ℕ) → IsSensor s → calibrationFits (openingOf (openings d) s) ≡ true
-    fit s k = rw (opening-at d s k) (all-fit (setupAt d s .active) (setup-fits m s k .fits-active))
+    fit : (s : ℕ) → IsSensor s → calibrationFits (ofSensor (openings d) s) ≡ true
+    fit s k = rw (opening-at d s k) (all-fit (setupAt d s .active .calibration) (setup-fits m s k .fits-calibration))
 
 -- a volume that is too short isn't taken
 pub begin-keeps : {x : State} {b : Model} → Invariant x b → (w : List ℕ) → Keeps x b (Begin w)

@@ -11,7 +11,7 @@ use Rattle.plans.specs.declared.Plan.{Plan}
 use Rattle.plans.specs.declared.Plan.the-variants.{Foreign, BroadcastRead, Refused, Reading, Writing, Masking}
 use Rattle.plans.proofs.Plans.{Facts, plan-facts}
 use Rattle.state.specs.Sonde.{countedGood, countedBad}
-use Rattle.calls.specs.Frame.{reading, writeAt, maskedWord, planned, judged, frameOf, codeBy}
+use Rattle.calls.specs.Frame.{readAnswer, writeAt, maskedWord, planned, admitted, frameOf, codeBy}
 use Rattle.agreement.specs.Model.{Model, modelPlanned, modelFrame}
 use Rattle.agreement.specs.Runs.{State, frameIn, numberOf, after, modelAfter}
 use Rattle.agreement.specs.Runs.Call.{Frame}
@@ -25,7 +25,7 @@ module _ {x : State} {b : Model} (h : Invariant x b) (body reply : List ℕ) (cl
   plan-keeps : (p : Plan) → Facts body p
       → Answered x b (planned (x .sonde) body reply (x .volume) clock p) (modelPlanned b clock p)
       (cond (eqb (codeBy (x .sonde) (x .volume) clock p) 0) (updatedBy (x .sonde) p) 0)
-  unfolding countedGood reading
+  unfolding countedGood readAnswer
   plan-keeps Foreign l = record { no-number = refl; invariant = h; entries = refl }
   plan-keeps BroadcastRead l = record { no-number = refl; invariant = counted-keeps h _; entries = refl }
   plan-keeps (Refused code) l = rw (none (eqb code 0)) (record { no-number = refl; invariant = refused-keeps h body code; entries = refl })
@@ -46,7 +46,7 @@ module _ {x : State} {b : Model} (h : Invariant x b) (body reply : List ℕ) (cl
 module _ {x : State} {b : Model} (h : Invariant x b) (frame reply : List ℕ) (clock : ℕ) where
   -- any frame, with any reply buffer
   pub frame-keeps : Keeps x b (Frame frame reply clock)
-  unfolding numberOf after modelAfter noted calibrates frameOf judged modelFrame countedBad
+  unfolding numberOf after modelAfter noted calibrates frameOf admitted modelFrame countedBad
   frame-keeps = room (ltb (length reply) 256) refl
     where
       good : ltb (length reply) 256 ≡ false → isGood frame ≡ true → Keeps x b (Frame frame reply clock)

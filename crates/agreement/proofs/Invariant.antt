@@ -6,14 +6,14 @@ use Prim.Native.Nat.{ℕ}
 use native.Mathlib.Nat.{zero-add}
 use Rattle.coefficients.specs.Coefficients.{sameCalibration}
 use Rattle.coefficients.proofs.Bits.{same-calibration-refl}
-use Rattle.journal.specs.Journal.{IsSensor, openingOf, indicesFrom, latest}
+use Rattle.journal.specs.Journal.{IsSensor, ofSensor, indicesFrom, latest}
 use Rattle.journal.specs.Valid.{chainOf, valid}
 use Rattle.journal.specs.Replay.{replayOf, replays}
 use Rattle.journal.proofs.Tests.{sensor-cases, four-intro}
 use Rattle.journal.proofs.Chains.{indices-ascend, indices-member, chain-ends}
 use Rattle.journal.proofs.Holds.{Holds, holds-valid, holds-used, holds-chain, holds-replay}
 use Rattle.sensors.specs.declared.Setup.{Setup}
-use Rattle.sensors.proofs.Setups.{valid-setup-parts}
+use Rattle.sensors.proofs.Setups.{active-parts}
 use Rattle.state.specs.Sonde.{setupAt}
 use Rattle.state.specs.declared.Sonde.{Sonde}
 use Rattle.calls.specs.Agrees.{openings, sameCalibrations, journalAgrees, agrees}
@@ -27,12 +27,12 @@ use Rattle.agreement.proofs.Sondes.{Matches, sonde-valid, setup-same, s
 pub record Invariant (x : State) (b : Model) : Type 0 where
   pub matches : Matches (x .sonde) (b .address) (b .setups)
   pub holds : Holds (x .volume) (b .journal)
-  pub followed : (s : ℕ) → IsSensor s → latest s (openingOf (b .journal .opening) s) (b .journal .entries) ≡ setupOf (b .setups) s .active
+  pub followed : (s : ℕ) → IsSensor s → latest s (ofSensor (b .journal .opening) s) (b .journal .entries) ≡ setupOf (b .setups) s .active .calibration
 
 -- the opening that a begin writes is the calibration in force
-pub opening-at : (d : Sonde) (s : ℕ) → IsSensor s → openingOf (openings d) s ≡ setupAt d s .active
+pub opening-at : (d : Sonde) (s : ℕ) → IsSensor s → ofSensor (openings d) s ≡ setupAt d s .active .calibration
 unfolding openings
-opening-at d = sensor-cases (λ s. openingOf (openings d) s ≡ setupAt d s .active) refl refl refl refl
+opening-at d = sensor-cases (λ s. ofSensor (openings d) s ≡ setupAt d s .active .calibration) refl refl refl refl
 
 module _ {x : State} {b : Model} (h : Invariant x b) where
   -- ---- number 4 isn't due
@@ -42,9 +42,9 @@ module _ {x : State} {b : Model} (h : Invariant x b) where
   volume-valid = holds-valid (x .volume) (b .journal) (h .holds)
 
   -- its replay is what is in force
-  pub replay-same : (s : ℕ) → IsSensor s → replayOf (x .volume) s ≡ setupAt (x .sonde) s .active
+  pub replay-same : (s : ℕ) → IsSensor s → replayOf (x .volume) s ≡ setupAt (x .sonde) s .active .calibration
   replay-same s k =
-      holds-replay (x .volume) (b .journal) (h .holds) s k ∙ h .followed s k ∙ ap (λ (y : Setup). y .active) (sym (setup-same (h .matches) s k))
+      holds-replay (x .volume) (b .journal) (h .holds) s k ∙ h .followed s k ∙ ap (λ (y : Setup). y .active .calibration) (sym (setup-same (h .matches) s k))
 
   -- so the sonde agrees with it
   pub agrees-with : agrees (x .sonde) (x .volume) ≡ true
@@ -53,8 +53,8 @@ module _ {x : State} {b : Model} (h : Invariant x b) where
       rw (
         sonde-valid (h .matches),
         volume-valid,
-        four-intro (λ s. sameCalibration (openingOf (openings (x .sonde)) s) (replayOf (x .volume) s))
-            (λ s k. rw (opening-at (x .sonde) s k, replay-same s k) (same-calibration-refl (setupAt (x .sonde) s .active))),
+        four-intro (λ s. sameCalibration (ofSensor (openings (x .sonde)) s) (replayOf (x .volume) s))
+            (λ s k. rw (opening-at (x .sonde) s k, replay-same s k) (same-calibration-refl (setupAt (x .sonde) s .active .calibration))),
       )
 
   -- ---- the books agree
@@ -75,9 +75,9 @@ module _ {x : State} {b : Model} (h : Invariant x b) where
         ends = λ s f k l. rw (chain-is s k, h .holds .words) (chain-ends (b .journal) (h .holds .free) s f k l);
         followed = h .followed;
         replayed = replay-same;
-        bits = λ s k. rw (replay-same s k) (same-calibration-refl (setupAt (x .sonde) s .active));
-        finite = λ s k. valid-setup-parts s (setupAt (x .sonde) s) (setup-valid (h .matches) s k) .active-finite;
-        limits = λ s k. valid-setup-parts s (setupAt (x .sonde) s) (setup-valid (h .matches) s k) .in-limits;
+        bits = λ s k. rw (replay-same s k) (same-calibration-refl (setupAt (x .sonde) s .active .calibration));
+        finite = λ s k. active-parts s (setupAt (x .sonde) s) (setup-valid (h .matches) s k) .0;
+        limits = λ s k. active-parts s (setupAt (x .sonde) s) (setup-valid (h .matches) s k) .1;
         address = h .matches .address-is;
         setups = setup-same (h .matches);
         audited = rw (agrees-with, holds-used (x .volume) (b .journal) (h .holds));

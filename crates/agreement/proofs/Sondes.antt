@@ -12,20 +12,19 @@ use lib.Seq.{set-getD}
 use borrow.Author.Tests.{eqb-true}
 use Rattle.floats.specs.Floats.{finite}
 use Rattle.floats.proofs.Bools.{both}
-use Rattle.coefficients.specs.Coefficients.{coefficientsOf}
 use Rattle.journal.specs.Journal.{IsSensor}
 use Rattle.journal.specs.Replay.{replayOf, replays}
 use Rattle.journal.proofs.Tests.{sensor-cases, replaced-at}
-use Rattle.sensors.specs.Sensors.{freshSetup, freshSensor, validSetup, validSensor}
-use Rattle.sensors.specs.Changes.{calibratedAt, measuredSensor, sensorWithSetup}
+use Rattle.sensors.specs.Sensors.{freshSetup, poweredSetup, freshSensor, validSetup, validSensor}
+use Rattle.sensors.specs.Changes.{measuredSensor, sensorWithSetup}
 use Rattle.sensors.specs.declared.Setup.{Setup}
 use Rattle.sensors.specs.declared.Sensor.{Sensor}
-use Rattle.sensors.proofs.Setups.{SetupFits, valid-setup-parts, valid-sensor-parts, fresh-valid, fresh-fits, fresh-sensor-valid}
-use Rattle.sensors.proofs.Changed.{calibrated-valid, calibrated-fits, measured-valid}
+use Rattle.sensors.proofs.Setups.{SetupFits, valid-setup-parts, valid-sensor-parts, powered-valid, powered-fits, fresh-fits, fresh-sensor-valid}
+use Rattle.sensors.proofs.Changed.{measured-valid}
 use Rattle.state.specs.Sonde.{sonde, freshSonde, noSensor, sensorAt, setupAt, withSensor, withSetup, measuredAt, addressValid, validSonde}
 use Rattle.state.specs.declared.Counters.{Counters}
 use Rattle.state.specs.declared.Sonde.{Sonde}
-use Rattle.calls.specs.Calls.{rawsFinite, poweredSetup, poweredSensor, poweredFrom}
+use Rattle.calls.specs.Calls.{rawsFinite, poweredSensor, poweredFrom}
 use Rattle.agreement.specs.Model.{setupOf, freshSetups, poweredSetups}
 
 -- sensor s beside its setup in the book
@@ -68,27 +67,25 @@ setup-replaced ys s t y n k j = replaced-at ys s t y (noSensor .setup) n k j
 -- ---- measurements and calibrations
 
 -- a measurement reads the second raw for sensor 1 only, and none where the sensor isn't present
-raws-read : (s : ℕ) (present : Bool) (first second : Float) → rawsFinite s present first second ≡ true
-    → (present ≡ true → finite first ≡ true) × (present ≡ true → s ≡ 1 → finite second ≡ true)
+raws-read : (s : ℕ) (present : Bool) (raw1 raw2 : Float) → rawsFinite s present raw1 raw2 ≡ true
+    → (present ≡ true → finite raw1 ≡ true) × (present ≡ true → s ≡ 1 → finite raw2 ≡ true)
 unfolding rawsFinite
-raws-read s present first second f = (λ p. go (eqb s 1) (rw p at f), λ p o. both (finite first) (finite second) (rw (p, o) at f) .1)
+raws-read s present raw1 raw2 f = (λ p. go (eqb s 1) (rw p at f), λ p o. both (finite raw1) (finite raw2) (rw (p, o) at f) .1)
   where
-    go : (b : Bool) → cond b (finite first && finite second) (finite first) ≡ true → finite first ≡ true
-    go true e = both (finite first) (finite second) e .0
+    go : (b : Bool) → cond b (finite raw1 && finite raw2) (finite raw1) ≡ true → finite raw1 ≡ true
+    go true e = both (finite raw1) (finite raw2) e .0
     go false e = e
 
 -- a sensor powered up with the calibration of a valid setup
-powered-matches : (s : ℕ) → IsSensor s → (x : Setup) → validSetup s x ≡ true → SetupFits x → SensorMatches s (poweredSensor s (x .active)) (poweredSetup s (x .active))
-unfolding poweredSensor poweredSetup validSensor freshSensor
+powered-matches : (s : ℕ) → IsSensor s → (x : Setup) → validSetup s x ≡ true → SetupFits x
+    → SensorMatches s (poweredSensor s (x .active .calibration)) (poweredSetup s (x .active .calibration))
+unfolding poweredSensor validSensor freshSensor
 powered-matches s k x v f =
-    let p = valid-setup-parts s x v in
     let t = valid-sensor-parts s (freshSensor s) (fresh-sensor-valid s (k .0) (k .1)) in
-    let c : validSetup s (calibratedAt (freshSetup s) (coefficientsOf (x .active)) (x .active .time)) ≡ true
-    = calibrated-valid s (freshSetup s) (fresh-valid s (k .0) (k .1)) (coefficientsOf (x .active)) (x .active .time) (p .active-finite) (p .in-limits) in
     record {
       setup-is = refl;
-      valid-sensor = rw (c, t .1);
-      fits = calibrated-fits (freshSetup s) (fresh-fits s) (coefficientsOf (x .active)) (x .active .time) (f .fits-active);
+      valid-sensor = rw (powered-valid s (x .active .calibration) (k .0) (k .1) (valid-setup-parts s x v .calibration-valid), t .1);
+      fits = powered-fits s (x .active .calibration) (f .fits-calibration);
     }
 
 -- ---- a sonde that matches
@@ -154,28 +151,28 @@ module _ {d : Sonde} {address : ℕ} {ys : List Setup} (m : Matches d address ys
       replaced s k _ y (record { setup-is = refl; valid-sensor = rw (v, t .1, t .2); fits = f })
 
   -- a measurement of finite raws
-  pub measured : (s : ℕ) → IsSensor s → (present : Bool) (first second : Float) → rawsFinite s present first second ≡ true
-      → Matches (measuredAt d s present first second) address ys
+  pub measured : (s : ℕ) → IsSensor s → (present : Bool) (raw1 raw2 : Float) → rawsFinite s present raw1 raw2 ≡ true
+      → Matches (measuredAt d s present raw1 raw2) address ys
   unfolding measuredAt measuredSensor setupAt setupOf
-  measured s k present first second f =
+  measured s k present raw1 raw2 f =
       rw (set-getD ys (s - 1) (noSensor .setup)) at
       (replaced s k _ (getD ys (s - 1) (noSensor .setup))
       (record {
         setup-is = m .each s k .setup-is;
-        valid-sensor = measured-valid s (sensorAt d s) present first second (m .each s k .valid-sensor) (raws .0) (raws .1);
+        valid-sensor = measured-valid s (sensorAt d s) present raw1 raw2 (m .each s k .valid-sensor) (raws .0) (raws .1);
         fits = m .each s k .fits;
       }))
     where
-      raws : (present ≡ true → finite first ≡ true) × (present ≡ true → s ≡ 1 → finite second ≡ true)
-      raws = raws-read s present first second f
+      raws : (present ≡ true → finite raw1 ≡ true) × (present ≡ true → s ≡ 1 → finite raw2 ≡ true)
+      raws = raws-read s present raw1 raw2 f
 
   -- a power-up from a volume whose replay is the calibrations in force
-  pub powered-up : (a : ℕ) (w : List ℕ) → addressValid a ≡ true → ((s : ℕ) → IsSensor s → replayOf w s ≡ setupAt d s .active)
+  pub powered-up : (a : ℕ) (w : List ℕ) → addressValid a ≡ true → ((s : ℕ) → IsSensor s → replayOf w s ≡ setupAt d s .active .calibration)
       → Matches (poweredFrom a (replays w)) a (poweredSetups ys)
   unfolding replays poweredFrom poweredSetups setupOf
   powered-up a w v r = of-four a _ v (one 1 (omega arith)) (one 2 (omega arith)) (one 3 (omega arith)) (one 4 (omega arith))
     where
-      one : (s : ℕ) → IsSensor s → SensorMatches s (poweredSensor s (replayOf w s)) (poweredSetup s (getD ys (s - 1) (noSensor .setup) .active))
+      one : (s : ℕ) → IsSensor s → SensorMatches s (poweredSensor s (replayOf w s)) (poweredSetup s (getD ys (s - 1) (noSensor .setup) .active .calibration))
       one s k = rw (r s k, ← (setup-same s k)) (powered-matches s k (setupAt d s) (setup-valid s k) (setup-fits s k))
 
 -- a fresh sonde matches fresh setups

@@ -16,7 +16,7 @@ use Rattle.agreement.proofs.Frames.{frame-keeps}
 -- each call
 keeps : {x : State} {b : Model} → Invariant x b → (c : Call) → Keeps x b c
 keeps h (Frame frame reply clock) = frame-keeps h frame reply clock
-keeps h (Measure s present first second) = measure-keeps h s present first second
+keeps h (Measure s present raw1 raw2) = measure-keeps h s present raw1 raw2
 keeps h (PowerUp address) = power-up-keeps h address
 keeps h (Begin w) = begin-keeps h w
 
@@ -36,6 +36,6 @@ run-accepted h (c ∷ cs) = rw (← (keeps h c .entries)) (run-accepted (keeps h
 -- after a fresh and a begin that aren't refused, whatever the calls and their arguments
 pub agreement : NoListParts
 unfolding modelStart
-agreement address first f g calls =
-    let h = start-invariant address first f g in
+agreement address words f g calls =
+    let h = start-invariant address words f g in
     record { never-four = run-never-four h calls; agree = agree (run-invariant h calls); accepted = run-accepted h calls }

@@ -14,7 +14,7 @@ use Rattle.entries.specs.Entries.{replacedBy}
 use Rattle.entries.specs.declared.Entry.{Entry}
 use Rattle.fields.specs.declared.Field.{Field}
 use Rattle.fields.proofs.Computed.{other}
-use Rattle.journal.specs.Journal.{Journal, IsSensor, openingOf, on, latest, add}
+use Rattle.journal.specs.Journal.{Journal, IsSensor, ofSensor, on, latest, appended}
 use Rattle.journal.specs.Stores.{appendOf}
 use Rattle.journal.proofs.Holds.{Holds, holds-used, append-holds}
 use Rattle.journal.proofs.Replay.{latest-snoc}
@@ -24,9 +24,10 @@ use Rattle.sensors.specs.declared.Sample.{Sample}
 use Rattle.sensors.specs.declared.Sensor.{Sensor}
 use Rattle.sensors.proofs.Setups.{SetupFits}
 use Rattle.registers.specs.Registers.{parameterRegister, sensorRegister}
-use Rattle.writes.specs.Writes.{codeOf, writeOf}
-use Rattle.writes.specs.declared.Written.{Written}
-use Rattle.writes.specs.declared.Written.the-variants.{Refused, Stored, Updated}
+use Rattle.commands.specs.Commands.{codeOf}
+use Rattle.writes.specs.Writes.{writeOf}
+use Rattle.commands.specs.declared.Written.{Written}
+use Rattle.commands.specs.declared.Written.the-variants.{Refused, Stored, Updated}
 use Rattle.writes.proofs.Outcomes.{Code, mode-off, not-listed, not-accepted, journal-full}
 use Rattle.writes.proofs.Laws.{write-valid, write-fits, stored-active, codes}
 use Rattle.writes.proofs.Rows.{settled, written-part}
@@ -112,7 +113,7 @@ module _ {x : State} {b : Model} (h : Invariant x b) where
   module _ (s : ℕ) (k : IsSensor s) where
     -- a setup stored in sensor s, and the journal that the volume then holds
     stored-keeps : (body : List ℕ) (y : Setup) → validSetup s y ≡ true → SetupFits y → (w : List ℕ) (j : Journal) → Holds w j
-        → ((t : ℕ) → IsSensor t → latest t (openingOf (j .opening) t) (j .entries) ≡ (cond (eqb t s) y (setupOf (b .setups) t)) .active)
+        → ((t : ℕ) → IsSensor t → latest t (ofSensor (j .opening) t) (j .entries) ≡ (cond (eqb t s) y (setupOf (b .setups) t)) .active .calibration)
         → Invariant (state (confirmation (withSetup (x .sonde) s y) body .sonde) w) (model (b .address) (set (b .setups) (s - 1) y) j)
     unfolding confirmation countedGood
     stored-keeps body y v f w j g r =
@@ -149,7 +150,7 @@ module _ {x : State} {b : Model} (h : Invariant x b) where
           no-update true false o u = refl
           no-update false q o u = refl
 
-          in-force : (t : ℕ) (p : Bool) → eqb t s ≡ p → setupOf (b .setups) t .active ≡ (cond p y (setupOf (b .setups) t)) .active
+          in-force : (t : ℕ) (p : Bool) → eqb t s ≡ p → setupOf (b .setups) t .active .calibration ≡ (cond p y (setupOf (b .setups) t)) .active .calibration
           in-force t true q = rw (eqb-true t s q, ← (setup-same (h .matches) s k)) (sym (stored-active s old f high low clock spare y e))
           in-force t false q = refl
 
@@ -168,22 +169,22 @@ module _ {x : State} {b : Model} (h : Invariant x b) where
           room = ltb-true (length (b .journal .entries)) (b .journal .capacity) (sym (spare-same h) ∙ u .has-room)
 
           before : ℕ → Calibration
-          before t = latest t (openingOf (b .journal .opening) t) (b .journal .entries)
+          before t = latest t (ofSensor (b .journal .opening) t) (b .journal .entries)
 
           in-force : (t : ℕ) → IsSensor t → (p : Bool) → eqb t s ≡ p
-              → cond p (replacedBy (before t) n) (before t) ≡ (cond p y (setupOf (b .setups) t)) .active
+              → cond p (replacedBy (before t) n) (before t) ≡ (cond p y (setupOf (b .setups) t)) .active .calibration
           in-force t l true q =
               ap (λ (c : Calibration). replacedBy c n) (h .followed t l ∙ rw (eqb-true t s q, ← (setup-same (h .matches) s k))) ∙ u .replaced
           in-force t l false q = h .followed t l
 
           after : Invariant (state (confirmation (withSetup (x .sonde) s y) body .sonde) (appendOf (x .volume) n))
-              (model (b .address) (set (b .setups) (s - 1) y) (add (b .journal) n))
+              (model (b .address) (set (b .setups) (s - 1) y) (appended (b .journal) n))
           after =
               stored-keeps body y (update-valid s old f high low clock spare y n (setup-valid (h .matches) s k) e)
-              (update-fits s old f high low clock spare y n (setup-fits (h .matches) s k) e) (appendOf (x .volume) n) (add (b .journal) n)
+              (update-fits s old f high low clock spare y n (setup-fits (h .matches) s k) e) (appendOf (x .volume) n) (appended (b .journal) n)
               (append-holds (x .volume) (b .journal) n (h .holds) (update-entry-valid s old f high low clock spare y n (setup-valid (h .matches) s k) e)
               (update-entry-fits s old f high low clock spare y n (setup-fits (h .matches) s k) e) room)
-              (λ t l. latest-snoc t (openingOf (b .journal .opening) t) (b .journal .entries) n ∙ rw (ap (eqb t) (u .sensor-is)) (in-force t l (eqb t s) refl))
+              (λ t l. latest-snoc t (ofSensor (b .journal .opening) t) (b .journal .entries) n ∙ rw (ap (eqb t) (u .sensor-is)) (in-force t l (eqb t s) refl))
 
           new-is : setupAt (confirmation (withSetup (x .sonde) s y) body .sonde) s ≡ y
           new-is = setup-same (after .matches) s k ∙ setup-replaced (b .setups) s s y (h .matches .four-setups) k k ∙ rw (eq-eqb s s refl)

@@ -8,7 +8,7 @@ use lib.Dec.{eqb}
 use Rattle.rtu.specs.Frame.{isGood, bodyOf}
 use Rattle.methods.specs.Methods.{pointsOf}
 use Rattle.entries.specs.declared.Entry.{Entry}
-use Rattle.writes.specs.Writes.{methodSet}
+use Rattle.commands.specs.Commands.{methodSet}
 use Rattle.plans.specs.Plans.{planOf}
 use Rattle.plans.specs.declared.Plan.{Plan}
 use Rattle.plans.specs.declared.Plan.the-variants.{Foreign, BroadcastRead, Refused, Reading, Writing, Masking}
@@ -44,8 +44,8 @@ unfoldable pub calibrated : Sonde → Sonde → ℕ → Entry
 calibrated before now s =
     record {
       sensor = s;
-      method = setupAt before s .method;
-      calibration = setupAt now s .active;
+      method = setupAt before s .procedure .method;
+      calibration = setupAt now s .active .calibration;
       points = pointsOf (methodSet (setupAt before s));
     }
 
@@ -54,7 +54,7 @@ unfoldable pub noted : List Entry → State → Call → List Entry
 noted es x (Frame frame reply clock) =
     cond (eqb (calibrates x frame reply clock) 0) es
     (es ++ (calibrated (x .sonde) (after x (Frame frame reply clock) .sonde) (calibrates x frame reply clock) ∷ []))
-noted es x (Measure s present first second) = es
+noted es x (Measure s present raw1 raw2) = es
 noted es x (PowerUp address) = es
 noted es x (Begin w) = cond (eqb (beginOf (x .sonde) w .number) 0) [] es
 

@@ -8,7 +8,7 @@ use lib.Dec.{eqb}
 use lib.ListN.{length, getD}
 use Rattle.coefficients.specs.Coefficients.{allFinite, coefficientsOf, inLimits, sameCalibration}
 use Rattle.entries.specs.declared.Entry.{Entry}
-use Rattle.journal.specs.Journal.{IsSensor, openingOf, indicesFrom, ascends, latest, every, on}
+use Rattle.journal.specs.Journal.{IsSensor, ofSensor, indicesFrom, ascends, latest, every, on}
 use Rattle.journal.specs.Layout.{layout}
 use Rattle.journal.specs.Valid.{chain, chainOf, member}
 use Rattle.journal.specs.Replay.{replayOf}
@@ -34,14 +34,14 @@ pub record Agree (x : State) (b : Model) : Type 0 where
   -- every chain ends: however many steps are allowed beyond the entries, no more are met
   pub ends : (s f : ℕ) → IsSensor s → length (b .journal .entries) ≤ f → chain f (x .volume) (getD (x .volume) (3 + s) 0) ≡ chainOf (x .volume) s
   -- the opening followed by the chain gives the figures in force and the last calibration, the book's
-  pub followed : (s : ℕ) → IsSensor s → latest s (openingOf (b .journal .opening) s) (b .journal .entries) ≡ setupOf (b .setups) s .active
+  pub followed : (s : ℕ) → IsSensor s → latest s (ofSensor (b .journal .opening) s) (b .journal .entries) ≡ setupOf (b .setups) s .active .calibration
   -- and the sonde's; so does replay of the volume's words
-  pub replayed : (s : ℕ) → IsSensor s → replayOf (x .volume) s ≡ setupAt (x .sonde) s .active
+  pub replayed : (s : ℕ) → IsSensor s → replayOf (x .volume) s ≡ setupAt (x .sonde) s .active .calibration
   -- bit for bit
-  pub bits : (s : ℕ) → IsSensor s → sameCalibration (setupAt (x .sonde) s .active) (replayOf (x .volume) s) ≡ true
+  pub bits : (s : ℕ) → IsSensor s → sameCalibration (setupAt (x .sonde) s .active .calibration) (replayOf (x .volume) s) ≡ true
   -- these are finite and inside the sensor's limits
-  pub finite : (s : ℕ) → IsSensor s → allFinite (coefficientsOf (setupAt (x .sonde) s .active)) ≡ true
-  pub limits : (s : ℕ) → IsSensor s → inLimits s (coefficientsOf (setupAt (x .sonde) s .active)) ≡ true
+  pub finite : (s : ℕ) → IsSensor s → allFinite (coefficientsOf (setupAt (x .sonde) s .active .calibration)) ≡ true
+  pub limits : (s : ℕ) → IsSensor s → inLimits s (coefficientsOf (setupAt (x .sonde) s .active .calibration)) ≡ true
   -- the sonde's address and every value that frames write are the book's
   pub address : x .sonde .address ≡ b .address
   pub setups : (s : ℕ) → IsSensor s → setupAt (x .sonde) s ≡ setupOf (b .setups) s
@@ -49,17 +49,17 @@ pub record Agree (x : State) (b : Model) : Type 0 where
   pub audited : auditOf (x .sonde) (x .volume) ≡ record { number = 0; entries = length (b .journal .entries) }
 
 -- what holds of any list of calls after a fresh and a begin
-pub record Agreement (address : ℕ) (first : List ℕ) (calls : List Call) : Type 0 where
+pub record Agreement (address : ℕ) (words : List ℕ) (calls : List Call) : Type 0 where
   -- "Number 4 isn't tried; no call in the list gives it"
-  pub never-four : every (λ n. not (eqb n 4)) (numbers (start address first) calls) ≡ true
+  pub never-four : every (λ n. not (eqb n 4)) (numbers (start address words) calls) ≡ true
   -- after the list the sonde and its volume agree with the book
-  pub agree : Agree (run (start address first) calls) (modelRun (modelStart address (length first)) calls)
+  pub agree : Agree (run (start address words) calls) (modelRun (modelStart address (length words)) calls)
   -- "The entries added are demand 3's accepted calibrations": all of them since the last begin, in order, and no others
-  pub accepted : modelRun (modelStart address (length first)) calls .journal .entries ≡ acceptedFrom [] (start address first) calls
+  pub accepted : modelRun (modelStart address (length words)) calls .journal .entries ≡ acceptedFrom [] (start address words) calls
 
 -- Demand 3: "No list of calls parts the journal from the figures in force". The only assumptions are that the first fresh and the first begin
 -- weren't refused; the arguments of all calls are any values.
 abbrev pub NoListParts : Type 0
 NoListParts =
-    (address : ℕ) (first : List ℕ) → freshOf address .number ≡ 0 → beginOf (freshOf address .sonde) first .number ≡ 0 → (calls : List Call)
-    → Agreement address first calls
+    (address : ℕ) (words : List ℕ) → freshOf address .number ≡ 0 → beginOf (freshOf address .sonde) words .number ≡ 0 → (calls : List Call)
+    → Agreement address words calls

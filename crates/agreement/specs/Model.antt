@@ -5,23 +5,22 @@ use mathlib.Core.List.{List, [], _∷_}
 use Prim.Native.Nat.{ℕ, _-_}
 use lib.Dec.{ltb}
 use lib.ListN.{length, getD, set}
+use Rattle.words.specs.Mask.{maskedOf}
 use Rattle.rtu.specs.Frame.{isGood, bodyOf}
-use Rattle.modbus.specs.Request.{maskedOf}
 use Rattle.fields.specs.declared.Field.{Field}
-use Rattle.journal.specs.declared.Opening.{Opening}
-use Rattle.journal.specs.Journal.{Journal, add}
-use Rattle.journal.specs.Stores.{begun}
-use Rattle.sensors.specs.Sensors.{freshSetup, freshSample}
+use Rattle.journal.specs.declared.Calibrations.{Calibrations}
+use Rattle.journal.specs.Journal.{Journal, bySensor, appended}
+use Rattle.journal.specs.Stores.{newJournal}
+use Rattle.sensors.specs.Sensors.{freshSetup, poweredSetup, freshSample}
 use Rattle.sensors.specs.declared.Setup.{Setup}
 use Rattle.registers.specs.Registers.{sensorRegister}
 use Rattle.writes.specs.Writes.{writeOf}
-use Rattle.writes.specs.declared.Written.{Written}
-use Rattle.writes.specs.declared.Written.the-variants.{Refused as RefusedBy, Stored, Updated}
+use Rattle.commands.specs.declared.Written.{Written}
+use Rattle.commands.specs.declared.Written.the-variants.{Refused as RefusedBy, Stored, Updated}
 use Rattle.plans.specs.Plans.{planOf}
 use Rattle.plans.specs.declared.Plan.{Plan}
 use Rattle.plans.specs.declared.Plan.the-variants.{Foreign, BroadcastRead, Refused, Reading, Writing, Masking}
 use Rattle.state.specs.Sonde.{noSensor, addressValid}
-use Rattle.calls.specs.Calls.{poweredSetup}
 
 -- "It keeps the address; every value that frames write, trial figures, method and points among them; each sensor's mode, figures in force and
 -- last calibration; capacity; opening; a list of entries": four setups, and the journal as a record of facts
@@ -38,28 +37,22 @@ unfoldable pub setupOf : List Setup → ℕ → Setup
 setupOf xs s = getD xs (s - 1) (noSensor .setup)
 
 -- "figures in force and last calibrations"
-unfoldable pub actives : List Setup → Opening
-actives xs =
-    record {
-      sensor1 = setupOf xs 1 .active;
-      sensor2 = setupOf xs 2 .active;
-      sensor3 = setupOf xs 3 .active;
-      sensor4 = setupOf xs 4 .active;
-    }
+unfoldable pub actives : List Setup → Calibrations
+actives xs = bySensor (λ s. setupOf xs s .active .calibration)
 
 -- ---- begin
 
 -- "Begin: opening := figures in force and last calibrations; capacity by the length; no entries". Number 2 refuses; "A refused call ..:
 -- nothing"
 unfoldable pub modelBegin : Model → ℕ → Model
-modelBegin b words = cond (ltb words 88) b (model (b .address) (b .setups) (begun (actives (b .setups)) words))
+modelBegin b words = cond (ltb words 88) b (model (b .address) (b .setups) (newJournal (actives (b .setups)) words))
 
 unfoldable pub freshSetups : List Setup
 freshSetups = freshSetup 1 ∷ freshSetup 2 ∷ freshSetup 3 ∷ freshSetup 4 ∷ []
 
 -- "It starts as fresh, then takes the first begin"
 unfoldable pub modelStart : ℕ → ℕ → Model
-modelStart address words = model address freshSetups (begun (actives freshSetups) words)
+modelStart address words = model address freshSetups (newJournal (actives freshSetups) words)
 
 -- ---- power-up
 
@@ -67,10 +60,10 @@ modelStart address words = model address freshSetups (begun (actives freshSetups
 -- as fresh". Number 1 refuses.
 unfoldable pub poweredSetups : List Setup → List Setup
 poweredSetups xs =
-    poweredSetup 1 (setupOf xs 1 .active)
-    ∷ poweredSetup 2 (setupOf xs 2 .active)
-    ∷ poweredSetup 3 (setupOf xs 3 .active)
-    ∷ poweredSetup 4 (setupOf xs 4 .active)
+    poweredSetup 1 (setupOf xs 1 .active .calibration)
+    ∷ poweredSetup 2 (setupOf xs 2 .active .calibration)
+    ∷ poweredSetup 3 (setupOf xs 3 .active .calibration)
+    ∷ poweredSetup 4 (setupOf xs 4 .active .calibration)
     ∷ []
 
 unfoldable pub modelPowerUp : Model → ℕ → Model
@@ -98,7 +91,7 @@ stored b s x = model (b .address) (set (b .setups) (s - 1) x) (b .journal)
 abbrev pub kept : Model → ℕ → Written → Model
 kept b s (RefusedBy code) = b
 kept b s (Stored x) = stored b s x
-kept b s (Updated x e) = model (b .address) (set (b .setups) (s - 1) x) (add (b .journal) e)
+kept b s (Updated x e) = model (b .address) (set (b .setups) (s - 1) x) (appended (b .journal) e)
 
 -- "a frame that is .. another's or a read: nothing"
 abbrev pub modelPlanned : Model → ℕ → Plan → Model

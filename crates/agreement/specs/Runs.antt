@@ -37,7 +37,7 @@ frameIn x frame reply clock = frameOf (x .sonde) frame reply (x .volume) clock
 -- the number that a call gives
 unfoldable pub numberOf : State → Call → ℕ
 numberOf x (Frame frame reply clock) = frameIn x frame reply clock .number
-numberOf x (Measure s present first second) = measureOf (x .sonde) s present first second .number
+numberOf x (Measure s present raw1 raw2) = measureOf (x .sonde) s present raw1 raw2 .number
 numberOf x (PowerUp address) = powerUpOf address (x .volume) .number
 numberOf x (Begin w) = beginOf (x .sonde) w .number
 
@@ -45,7 +45,7 @@ numberOf x (Begin w) = beginOf (x .sonde) w .number
 -- a new volume that is refused isn't taken.
 unfoldable pub after : State → Call → State
 after x (Frame frame reply clock) = state (frameIn x frame reply clock .sonde) (frameIn x frame reply clock .volume)
-after x (Measure s present first second) = state (measureOf (x .sonde) s present first second .sonde) (x .volume)
+after x (Measure s present raw1 raw2) = state (measureOf (x .sonde) s present raw1 raw2 .sonde) (x .volume)
 after x (PowerUp address) = cond (eqb (powerUpOf address (x .volume) .number) 0) (state (powerUpOf address (x .volume) .sonde) (x .volume)) x
 after x (Begin w) = cond (eqb (beginOf (x .sonde) w .number) 0) (state (x .sonde) (beginOf (x .sonde) w .volume)) x
 
@@ -67,7 +67,7 @@ start address w = state (freshOf address .sonde) (beginOf (freshOf address .sond
 -- "Measure: nothing"; "a begin gives its volume's length", a frame of its reply buffer the length
 unfoldable pub modelAfter : Model → Call → Model
 modelAfter b (Frame frame reply clock) = modelFrame b frame (length reply) clock
-modelAfter b (Measure s present first second) = b
+modelAfter b (Measure s present raw1 raw2) = b
 modelAfter b (PowerUp address) = modelPowerUp b address
 modelAfter b (Begin w) = modelBegin b (length w)
 

@@ -9,14 +9,14 @@ use lib.ListN.{length, getD, drop}
 use lib.Seq.{drop-append-seam}
 use Rattle.rtu.specs.Frame.{isGood, bodyOf, overlay}
 use Rattle.journal.specs.Layout.{place}
-use Rattle.journal.specs.Stores.{beginOf as beginWords, appendOf}
+use Rattle.journal.specs.Stores.{beginWords, appendOf}
 use Rattle.journal.specs.Valid.{valid}
 use Rattle.journal.proofs.Facts.{valid-last}
 use Rattle.journal.proofs.Kept.{append-keeps, begin-keeps as begin-words}
 use Rattle.fields.specs.declared.Field.{Field}
-use Rattle.writes.specs.Writes.{codeOf}
-use Rattle.writes.specs.declared.Written.{Written}
-use Rattle.writes.specs.declared.Written.the-variants.{Refused as RefusedBy, Stored, Updated}
+use Rattle.commands.specs.Commands.{codeOf}
+use Rattle.commands.specs.declared.Written.{Written}
+use Rattle.commands.specs.declared.Written.the-variants.{Refused as RefusedBy, Stored, Updated}
 use Rattle.writes.proofs.Updates.{update-facts}
 use Rattle.plans.specs.Plans.{planOf}
 use Rattle.plans.specs.declared.Plan.{Plan}
@@ -26,7 +26,7 @@ use Rattle.state.specs.Sonde.{setupAt, countedGood, countedBad, validSonde}
 use Rattle.state.specs.declared.Sonde.{Sonde}
 use Rattle.calls.specs.Agrees.{openings, agrees}
 use Rattle.calls.specs.Calls.{beginOf, begun}
-use Rattle.calls.specs.Frame.{Outcome, outcome, refusedBy, Answer, answer, left, refusal, reading, spareIn, writeAt, carried, maskedWord, codeBy, planned, judged, frameOf}
+use Rattle.calls.specs.Frame.{Outcome, outcome, refusedBy, Answer, answer, left, refusal, readAnswer, spareIn, writeAt, carried, maskedWord, codeBy, planned, admitted, frameOf}
 use Rattle.calls.proofs.Parts.{agrees-parts}
 
 -- the words past the entries in use and one entry more
@@ -57,14 +57,14 @@ module _ (d : Sonde) (reply w : List ℕ) (clock : ℕ) (v : valid w ≡ true) w
   planned-answered body Foreign h = left-answered (answer d []) w refl
   planned-answered body BroadcastRead h = left-answered (answer (countedGood d) []) w refl
   planned-answered body (Refused code) h = left-answered (refusal d body code) w refl
-  planned-answered body (Reading start count) h = left-answered (reading d w clock start count) w refl
+  planned-answered body (Reading start count) h = left-answered (readAnswer d w clock start count) w refl
   planned-answered body (Writing s f high low) h = carried-answered body s f high low (h .located .is-sensor) (writeAt d w clock s f high low) refl
   planned-answered body (Masking s f a b) h =
       carried-answered body s f (maskedWord d s f a b) 0 (h .located .is-sensor) (writeAt d w clock s f (maskedWord d s f a b) 0) refl
 
-  judged-answered : (frame : List ℕ) → Answered reply w (judged d frame reply w clock)
-  unfolding judged
-  judged-answered frame = go (isGood frame)
+  admitted-answered : (frame : List ℕ) → Answered reply w (admitted d frame reply w clock)
+  unfolding admitted
+  admitted-answered frame = go (isGood frame)
     where
       go : (b : Bool)
           → Answered reply w
@@ -90,11 +90,11 @@ frame-keeps d frame reply w clock = go (ltb (length reply) 256) (agrees d w) ref
 
     go : (short fit : Bool) → agrees d w ≡ fit
         → FrameKeeps d reply w
-        (cond short (outcome (refusedBy 3 d) reply w) (cond fit (judged d frame reply w clock) (outcome (refusedBy 4 d) reply w)))
+        (cond short (outcome (refusedBy 3 d) reply w) (cond fit (admitted d frame reply w clock) (outcome (refusedBy 4 d) reply w)))
     go true fit e = refused 3
     go false false e = refused 4
     go false true e =
-        let a = judged-answered d reply w clock (agrees-parts d w e .volume-valid) frame in
+        let a = admitted-answered d reply w clock (agrees-parts d w e .volume-valid) frame in
         record { number = λ h. absurd (h (a .zero)); past = a .past; free = a .free }
 
 -- what is refused by a code has the refusal's answer, and the volume stays

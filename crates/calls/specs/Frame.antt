@@ -5,18 +5,20 @@ use mathlib.Core.List.{List, [], _∷_}
 use Prim.Native.Nat.{ℕ, zero, suc, _/_, _%_}
 use lib.Dec.{eqb, leb, ltb}
 use lib.ListN.{length, getD}
-use Rattle.rtu.specs.Bytes.{wordAt}
+use Rattle.words.specs.Bytes.{wordAt}
+use Rattle.words.specs.Mask.{maskedOf}
 use Rattle.rtu.specs.Frame.{isGood, bodyOf, overlay}
-use Rattle.modbus.specs.Request.{addressOf, functionOf, maskedOf}
+use Rattle.modbus.specs.Request.{addressOf, functionOf}
 use Rattle.replies.specs.Reply.{readReply, echoReply, writeReply, exceptionReply}
 use Rattle.fields.specs.declared.Field.{Field}
 use Rattle.journal.specs.Words.{capacityOf}
 use Rattle.journal.specs.Stores.{appendOf}
 use Rattle.registers.specs.Registers.{sensorRegister, deviceRegister}
 use Rattle.registers.specs.declared.Device.{Device}
-use Rattle.writes.specs.Writes.{writeOf, codeOf}
-use Rattle.writes.specs.declared.Written.{Written}
-use Rattle.writes.specs.declared.Written.the-variants.{Refused as RefusedBy, Stored, Updated}
+use Rattle.commands.specs.Commands.{codeOf}
+use Rattle.writes.specs.Writes.{writeOf}
+use Rattle.commands.specs.declared.Written.{Written}
+use Rattle.commands.specs.declared.Written.the-variants.{Refused as RefusedBy, Stored, Updated}
 use Rattle.plans.specs.Plans.{planOf}
 use Rattle.plans.specs.declared.Plan.{Plan}
 use Rattle.plans.specs.declared.Plan.the-variants.{Foreign, BroadcastRead, Refused, Reading, Writing, Masking}
@@ -112,8 +114,8 @@ registersFrom d v r count = shownFrom (registerOf d v) r count
 abbrev pub readingBytes : Sonde → List ℕ → ℕ → ℕ → ℕ → List ℕ
 readingBytes d w clock start count = readReply (d .address) (registersFrom d (deviceOf d w clock) start count)
 
-unfoldable pub reading : Sonde → List ℕ → ℕ → ℕ → ℕ → Answer
-reading d w clock start count = answer (countedGood d) (readingBytes d w clock start count)
+unfoldable pub readAnswer : Sonde → List ℕ → ℕ → ℕ → ℕ → Answer
+readAnswer d w clock start count = answer (countedGood d) (readingBytes d w clock start count)
 
 -- ---- writes
 
@@ -142,7 +144,7 @@ abbrev pub planned : Sonde → List ℕ → List ℕ → List ℕ → ℕ → Pl
 planned d body reply w clock Foreign = left (answer d []) reply w
 planned d body reply w clock BroadcastRead = left (answer (countedGood d) []) reply w
 planned d body reply w clock (Refused code) = left (refusal d body code) reply w
-planned d body reply w clock (Reading start count) = left (reading d w clock start count) reply w
+planned d body reply w clock (Reading start count) = left (readAnswer d w clock start count) reply w
 planned d body reply w clock (Writing s f high low) = carried d body reply w s (writeAt d w clock s f high low)
 planned d body reply w clock (Masking s f a b) = carried d body reply w s (writeAt d w clock s f (maskedWord d s f a b) 0)
 
@@ -156,12 +158,12 @@ codeBy d w clock (Writing s f high low) = codeOf (writeAt d w clock s f high low
 codeBy d w clock (Masking s f a b) = codeOf (writeAt d w clock s f (maskedWord d s f a b) 0)
 
 -- "A frame shorter than 4 or longer than 256 bytes, or with a wrong CRC-16 .., counts bad"
-unfoldable pub judged : Sonde → List ℕ → List ℕ → List ℕ → ℕ → Outcome
-judged d frame reply w clock =
+unfoldable pub admitted : Sonde → List ℕ → List ℕ → List ℕ → ℕ → Outcome
+admitted d frame reply w clock =
     cond (isGood frame) (planned d (bodyOf frame) reply w clock (planOf (d .address) (bodyOf frame))) (left (answer (countedBad d) []) reply w)
 
 -- "3: reply buffer under 256 bytes", then number 4
 unfoldable pub frameOf : Sonde → List ℕ → List ℕ → List ℕ → ℕ → Outcome
 frameOf d frame reply w clock =
     cond (ltb (length reply) 256) (outcome (refusedBy 3 d) reply w)
-    (cond (agrees d w) (judged d frame reply w clock) (outcome (refusedBy 4 d) reply w))
+    (cond (agrees d w) (admitted d frame reply w clock) (outcome (refusedBy 4 d) reply w))

@@ -4,11 +4,11 @@ use mathlib.Core.List.{List}
 use Prim.Native.Nat.{ℕ}
 use Rattle.journal.specs.Journal.{IsSensor}
 use Rattle.rtu.specs.Frame.{overlay}
-use Rattle.writes.specs.declared.Written.{Written}
-use Rattle.writes.specs.declared.Written.the-variants.{Refused, Stored, Updated}
+use Rattle.commands.specs.declared.Written.{Written}
+use Rattle.commands.specs.declared.Written.the-variants.{Refused, Stored, Updated}
 use Rattle.state.specs.declared.Sonde.{Sonde}
 use Rattle.calls.specs.Frame.{refusal, confirmation, carried}
-use Rattle.frames.specs.Effects.{Fit, leaves, writeEffect, writeBytes, writeWords}
+use Rattle.frames.specs.Steps.{Fit, leaves, writeEffect, writeBytes, writeWords}
 
 -- all that the frame's definition says, and a sensor where a setup is stored
 pub write-leaves : (d : Sonde) (body reply w : List ℕ) (s : ℕ) (x : Written) → IsSensor s

@@ -10,18 +10,17 @@ ghost use Rattle.registers.specs.Registers.{sensorRegister, deviceRegister};
 ghost use Rattle.plans.specs.Plans.{planOf};
 ghost use Rattle.writes.specs.Writes.{writeOf};
 ghost use Rattle.calls.specs.Frame.{outcome, refusalBytes, writtenReply, confirmationBytes, deviceOf, shownFrom, registersFrom, readingBytes, spareIn, maskedWord, planned, frameOf};
-ghost use Rattle.frames.specs.Effects.{finished, leaves, Fit, writeEffect, writeBytes, writeWords};
+ghost use Rattle.frames.specs.Steps.{finished, leaves, Fit, writeEffect, writeBytes, writeWords};
 use calls::SondeFrame;
+use commands::Written;
 use fields::Field;
 use plans::Plan;
 use refusals::numbers;
 use registers::Device;
-use rtu::bytes;
 use sensors::Sensor;
 use sensors::Setup;
 use state::Counters;
 use state::Sonde;
-use writes::Written;
 
 // What a frame changes of a sonde, with the length of the reply. The sonde is put together once, at the end.
 pub enum Effect {
@@ -80,8 +79,8 @@ fn put_written(reply: &mut [u8], body: &[u8]) -> u16
     ensures { λ _. ⌜ now (reply .exit) ≡ overlay (writtenReply (now (body .entry))) (now (reply .entry)) ⌝ }
 {
     if modbus::function(body) == 16 {
-        let start = bytes::word_at(body, 2);
-        let count = bytes::word_at(body, 4);
+        let start = words::word_at(body, 2);
+        let count = words::word_at(body, 4);
         return replies::put_write(reply, modbus::address(body), start, count);
     }
     replies::put_echo(reply, body)
@@ -110,7 +109,7 @@ fn device(sonde: Sonde, volume: &[u16], clock: u32) -> Device
         bad: counters.bad,
         exceptions: counters.exceptions,
         capacity: volume::capacity(volume.len()),
-        used: audit::used(volume),
+        used: validity::used(volume),
     }
 }
 
@@ -167,7 +166,7 @@ fn read(sonde: Sonde, reply: &mut [u8], volume: &[u16], clock: u32, start: u16, 
 fn spare(volume: &[u16]) -> bool
     ensures { λ r. ⌜ r ≡ spareIn (now (volume .entry)) ⌝ }
 {
-    audit::used(volume) < volume::capacity(volume.len())
+    validity::used(volume) < volume::capacity(volume.len())
 }
 
 // A write of one whole field: refused, stored, or an update that is journalled.
@@ -189,7 +188,7 @@ fn write(
 {
     let written = writes::write(sensor, setup, field, high, low, clock, spare(volume));
     match written {
-        Written::Refused(_) => Effect::Refused(refuse(body, reply, writes::code_of(written))),
+        Written::Refused(_) => Effect::Refused(refuse(body, reply, commands::code_of(written))),
         Written::Stored(s) => Effect::Stored {
             length: confirm(body, reply),
             sensor,
@@ -216,7 +215,7 @@ fn masked(sonde: Sonde, sensor: u16, field: Field, and_mask: u16, or_mask: u16) 
         sonde.sensors[(sensor as usize) - 1],
         field.offset,
     );
-    modbus::masked(old, and_mask, or_mask)
+    words::masked(old, and_mask, or_mask)
 }
 
 // A body whose frame was good, for a sonde that agrees with its volume.
@@ -226,7 +225,7 @@ fn answer(sonde: Sonde, body: &[u8], reply: &mut [u8], volume: &mut [u16], clock
     ensures { λ r. ⌜ Fit r ⌝ }
 {
     let counters = sonde.counters;
-    match plans::judge(sonde.address, body) {
+    match plans::plan_of(sonde.address, body) {
         Plan::Foreign => counted(0, counters),
         Plan::BroadcastRead => counted(0, counters.count_good()),
         Plan::Refused(code) => Effect::Refused(refuse(body, reply, code)),

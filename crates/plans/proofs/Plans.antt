@@ -20,7 +20,7 @@ use Rattle.fields.proofs.Registers.{whole-row}
 use Rattle.fields.proofs.Runs.{all-found-ends, all-found-block}
 use Rattle.fields.proofs.Spans.{Says, span-says}
 use Rattle.fields.proofs.Writable.{written-sensor}
-use Rattle.plans.specs.Plans.{targetIn, targetOf, readingIn, readingOf, writingOf, maskingOf, requested, planOf}
+use Rattle.plans.specs.Plans.{targetIn, targetOf, readPlanIn, readPlan, writePlan, maskPlan, requestPlan, planOf}
 use Rattle.plans.specs.declared.Target.{Target}
 use Rattle.plans.specs.declared.Target.the-variants.{Unfit, Writable}
 use Rattle.plans.specs.declared.Plan.{Plan}
@@ -86,30 +86,30 @@ module _ (start count : ℕ) where
 -- ---- the plan
 
 module _ (body : List ℕ) where
-  read-facts : (start count : ℕ) → 1 ≤ count → count ≤ 125 → Facts body (readingOf start count)
-  unfolding readingOf
+  read-facts : (start count : ℕ) → 1 ≤ count → count ≤ 125 → Facts body (readPlan start count)
+  unfolding readPlan
   read-facts start count h k = go (spanOf start count) (span-says start count)
     where
       reads : allFound start count ≡ true → Reads start count
       reads e = record { least = h; most = k; ends = all-found-ends start count e h; block = all-found-block start count e }
 
-      go : (x : Span) → Says start count x → Facts body (readingIn start count x)
+      go : (x : Span) → Says start count x → Facts body (readPlanIn start count x)
       go (Whole f) s = reads (s .0)
       go Mismatch s = reads s
       go Gap s = tt
 
-  request-facts : (r : Request) → InRange body r → Facts body (requested r)
+  request-facts : (r : Request) → InRange body r → Facts body (requestPlan r)
   request-facts Unsupported h = tt
   request-facts Malformed h = tt
   request-facts (Read start count) h = read-facts start count (h .least) (h .most)
-  request-facts (Write start count first second) h = go (targetOf start count) (target-fit start count)
+  request-facts (Write start count word1 word2) h = go (targetOf start count) (target-fit start count)
     where
-      go : (t : Target) → Fit count t → Facts body (writingOf first second t)
+      go : (t : Target) → Fit count t → Facts body (writePlan word1 word2 t)
       go (Unfit code) l = tt
       go (Writable s f) l = record { located = subst (λ (n : ℕ). Located n s f) (sym (l .all)) l; long = h .long }
   request-facts (Mask register a b) h = go (targetOf register 1) (target-fit register 1)
     where
-      go : (t : Target) → Fit 1 t → Facts body (maskingOf a b t)
+      go : (t : Target) → Fit 1 t → Facts body (maskPlan a b t)
       go (Unfit code) l = tt
       go (Writable s f) l = record { located = l; long = h .long }
 
@@ -117,7 +117,7 @@ module _ (body : List ℕ) where
 pub plan-facts : (own : ℕ) (body : List ℕ) → Facts body (planOf own body)
 unfolding planOf
 plan-facts own body =
-    let p = requested (requestOf body) in
+    let p = requestPlan (requestOf body) in
     let r = request-facts body (requestOf body) (in-range body) in
     choose (Facts body) (eqb (addressOf body) 0) _ _ (λ z. choose (Facts body) (eqb (functionOf body) 3) BroadcastRead p (λ t. tt) (λ t. r))
     (λ z. choose (Facts body) (eqb (addressOf body) own) p Foreign (λ t. r) (λ t. tt))

@@ -27,32 +27,32 @@ unfoldable pub targetOf : ℕ → ℕ → Target
 targetOf start count = targetIn (start / 100) (spanOf start count)
 
 -- a read may begin or end inside a field; none of its registers may be absent
-abbrev pub readingIn : ℕ → ℕ → Span → Plan
-readingIn start count (Whole f) = Reading start count
-readingIn start count Mismatch = Reading start count
-readingIn start count Gap = Refused (spanCode Gap)
+abbrev pub readPlanIn : ℕ → ℕ → Span → Plan
+readPlanIn start count (Whole f) = Reading start count
+readPlanIn start count Mismatch = Reading start count
+readPlanIn start count Gap = Refused (spanCode Gap)
 
-unfoldable pub readingOf : ℕ → ℕ → Plan
-readingOf start count = readingIn start count (spanOf start count)
+unfoldable pub readPlan : ℕ → ℕ → Plan
+readPlan start count = readPlanIn start count (spanOf start count)
 
-abbrev pub writingOf : ℕ → ℕ → Target → Plan
-writingOf high low (Unfit code) = Refused code
-writingOf high low (Writable sensor f) = Writing sensor f high low
+abbrev pub writePlan : ℕ → ℕ → Target → Plan
+writePlan high low (Unfit code) = Refused code
+writePlan high low (Writable sensor f) = Writing sensor f high low
 
-abbrev pub maskingOf : ℕ → ℕ → Target → Plan
-maskingOf a b (Unfit code) = Refused code
-maskingOf a b (Writable sensor f) = Masking sensor f a b
+abbrev pub maskPlan : ℕ → ℕ → Target → Plan
+maskPlan a b (Unfit code) = Refused code
+maskPlan a b (Writable sensor f) = Masking sensor f a b
 
 -- codes 1 and 3 are the request's own
-abbrev pub requested : Request → Plan
-requested Unsupported = Refused (codeOf Unsupported)
-requested Malformed = Refused (codeOf Malformed)
-requested (Read start count) = readingOf start count
-requested (Write start count first second) = writingOf first second (targetOf start count)
-requested (Mask register a b) = maskingOf a b (targetOf register 1)
+abbrev pub requestPlan : Request → Plan
+requestPlan Unsupported = Refused (codeOf Unsupported)
+requestPlan Malformed = Refused (codeOf Malformed)
+requestPlan (Read start count) = readPlan start count
+requestPlan (Write start count word1 word2) = writePlan word1 word2 (targetOf start count)
+requestPlan (Mask register a b) = maskPlan a b (targetOf register 1)
 
 -- "Address 0 .. writes are carried out, function 3 counts good and nothing else happens", "another's address counts nothing"
 unfoldable pub planOf : ℕ → List ℕ → Plan
 planOf own body =
-    cond (eqb (addressOf body) 0) (cond (eqb (functionOf body) 3) BroadcastRead (requested (requestOf body)))
-    (cond (eqb (addressOf body) own) (requested (requestOf body)) Foreign)
+    cond (eqb (addressOf body) 0) (cond (eqb (functionOf body) 3) BroadcastRead (requestPlan (requestOf body)))
+    (cond (eqb (addressOf body) own) (requestPlan (requestOf body)) Foreign)

@@ -1,7 +1,7 @@
 // What a body asks of a sonde: its address, then the map of registers. Everything here is judged before any value is looked at, so the
 // control book and the frame call share it.
 ghost use mathlib.Core.Path.{_≡_};
-ghost use Rattle.plans.specs.Plans.{targetOf, readingOf, writingOf, maskingOf, requested, planOf};
+ghost use Rattle.plans.specs.Plans.{targetOf, readPlan, writePlan, maskPlan, requestPlan, planOf};
 use fields::Field;
 use fields::READ_ONLY;
 use fields::Span;
@@ -41,7 +41,7 @@ pub enum Plan {
 }
 
 // The field that is exactly these registers, if it can be written at all.
-fn locate(start: u16, count: u16) -> Target
+fn target_of(start: u16, count: u16) -> Target
     ensures { λ r. ⌜ r ≡ targetOf start count ⌝ }
 {
     let span = lookup::span(start, count);
@@ -62,7 +62,7 @@ fn locate(start: u16, count: u16) -> Target
 
 // A read may begin or end inside a field.
 fn plan_read(start: u16, count: u16) -> Plan
-    ensures { λ r. ⌜ r ≡ readingOf start count ⌝ }
+    ensures { λ r. ⌜ r ≡ readPlan start count ⌝ }
 {
     let span = lookup::span(start, count);
     match span {
@@ -73,9 +73,9 @@ fn plan_read(start: u16, count: u16) -> Plan
 }
 
 fn plan_write(start: u16, count: u16, high: u16, low: u16) -> Plan
-    ensures { λ r. ⌜ r ≡ writingOf high low (targetOf start count) ⌝ }
+    ensures { λ r. ⌜ r ≡ writePlan high low (targetOf start count) ⌝ }
 {
-    match locate(start, count) {
+    match target_of(start, count) {
         Target::Unfit(code) => Plan::Refused(code),
         Target::Writable { sensor, field } => Plan::Writing {
             sensor,
@@ -87,9 +87,9 @@ fn plan_write(start: u16, count: u16, high: u16, low: u16) -> Plan
 }
 
 fn plan_mask(register: u16, and_mask: u16, or_mask: u16) -> Plan
-    ensures { λ r. ⌜ r ≡ maskingOf «and_mask» «or_mask» (targetOf register 1) ⌝ }
+    ensures { λ r. ⌜ r ≡ maskPlan «and_mask» «or_mask» (targetOf register 1) ⌝ }
 {
-    match locate(register, 1) {
+    match target_of(register, 1) {
         Target::Unfit(code) => Plan::Refused(code),
         Target::Writable { sensor, field } => Plan::Masking {
             sensor,
@@ -101,8 +101,8 @@ fn plan_mask(register: u16, and_mask: u16, or_mask: u16) -> Plan
 }
 
 // A request, judged on the map.
-fn on_map(request: Request) -> Plan
-    ensures { λ r. ⌜ r ≡ requested request ⌝ }
+fn plan_request(request: Request) -> Plan
+    ensures { λ r. ⌜ r ≡ requestPlan request ⌝ }
 {
     match request {
         Request::Unsupported => Plan::Refused(modbus::code_of(request)),
@@ -111,9 +111,9 @@ fn on_map(request: Request) -> Plan
         Request::Write {
             start,
             count,
-            first,
-            second,
-        } => plan_write(start, count, first, second),
+            word1,
+            word2,
+        } => plan_write(start, count, word1, word2),
         Request::Mask {
             register,
             and_mask,
@@ -123,7 +123,7 @@ fn on_map(request: Request) -> Plan
 }
 
 // What a body asks of the sonde with this address.
-pub fn judge(own: u8, body: &[u8]) -> Plan
+pub fn plan_of(own: u8, body: &[u8]) -> Plan
     ensures { λ r. ⌜ r ≡ planOf own (now (body .entry)) ⌝ }
 {
     let address = modbus::address(body);
@@ -134,5 +134,5 @@ pub fn judge(own: u8, body: &[u8]) -> Plan
     if !broadcast & (address != own) {
         return Plan::Foreign;
     }
-    on_map(modbus::decode(body))
+    plan_request(modbus::decode(body))
 }

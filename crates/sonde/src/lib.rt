@@ -33,12 +33,12 @@ pub extern "C" fn sonde_measure(
     sonde: Sonde,
     sensor: u8,
     present: bool,
-    first: f32,
-    second: f32,
+    raw1: f32,
+    raw2: f32,
 ) -> SondeMade
-    ensures { λ r. ⌜ r ≡ measureOf sonde sensor present first second ⌝ }
+    ensures { λ r. ⌜ r ≡ measureOf sonde sensor present raw1 raw2 ⌝ }
 {
-    calls::measure(sonde, sensor, present, first, second)
+    calls::measure(sonde, sensor, present, raw1, raw2)
 }
 
 #[no_mangle]

@@ -1,45 +1,46 @@
 -- All starred cases hold, by computation on the definitions. Assumes nothing.
 use mathlib.Core.Path.{refl}
 use lib.Ieee.{ofBits, toBits, round, sub, mul, div, le, eq}
+use Rattle.words.specs.Mask.{maskedOf}
 use Rattle.rtu.specs.Crc.{crcBit, crcBits, crcByte, crcFrom, crcOf}
 use Rattle.rtu.specs.Frame.{checksumOf, framed, bodyOf, isGood, overlay}
-use Rattle.modbus.specs.Request.{writeOneOf, writeMaskOf, requestOf, maskedOf}
-use Rattle.replies.specs.Reply.{marked, exceptionBody, echoReply, exceptionReply}
-use Rattle.floats.specs.Floats.{near, minus, finite, floatOf, highWord, lowWord, sameBits, isPlusZero}
+use Rattle.modbus.specs.Request.{writeOneOf, writeMaskOf, requestOf}
+use Rattle.replies.specs.Reply.{markedOf, exceptionBody, echoReply, exceptionReply}
+use Rattle.floats.specs.Floats.{near, nearMinus, finite, floatOf, highWord, lowWord, sameBits, isPlusZero}
 use Rattle.coefficients.specs.Coefficients.{allFinite, sameCoefficients, sameCalibration, defaultsOf, inLimits}
 use Rattle.methods.specs.Methods.{methodOf, candidateOf, verdictOf, judgedOf}
-use Rattle.entries.specs.Entries.{methodAllowed, pointsFinite, samePoints, validEntry, replacedBy}
+use Rattle.entries.specs.Entries.{validCalibration, methodAllowed, pointsFinite, samePoints, validEntry, replacedBy}
 use Rattle.journal.specs.Words.{capacityOf, entryWords, numberAt, floatAt, entryAt}
-use Rattle.journal.specs.Journal.{validOpening}
 use Rattle.journal.specs.Layout.{header}
-use Rattle.journal.specs.Stores.{beginOf as beginWords, appendOf}
+use Rattle.journal.specs.Stores.{beginWords, storesOf, appendOf}
 use Rattle.journal.specs.Valid.{validHeader, openingAt, validOpenings, validEntryAt, chainOf, validLink, validChain, validChains, validEntries, valid}
 use Rattle.journal.specs.Replay.{replayOf, replays}
 use Rattle.parameters.specs.Parameters.{idOf, defaultUnits, unitsAllowed, levelAllowed}
-use Rattle.fields.specs.Fields.{ownerBit, owns, holds, exactly, fieldAt, whole as wholeField, spanOf}
-use Rattle.sensors.specs.Sensors.{freshParameter, freshSetup, freshSensor, unitsValid, levelValid, sentinelsFinite, validSetup, validSensor}
-use Rattle.sensors.specs.Changes.{restarted, calibratedAt, sensorWithSetup}
+use Rattle.fields.specs.Fields.{ownerBit, owns, holds, exactly, fieldAt, wholeField, spanOf}
+use Rattle.sensors.specs.Sensors.{freshParameter, freshParameters, freshSetup, freshSensor, unitsValid, levelValid, validParameter, validParameters, validProcedure, validSetup, validSensor}
+use Rattle.sensors.specs.Changes.{newProcedure, restarted, calibratedAt, sensorWithSetup}
 use Rattle.registers.specs.Registers.{modeOf, headRegister, sensorRegister}
-use Rattle.writes.specs.Writes.{updated, commanded, fieldWritten, writeOf}
+use Rattle.commands.specs.Commands.{updated, commanded}
+use Rattle.writes.specs.Writes.{fieldWritten, writeOf}
 use Rattle.plans.specs.Plans.{targetOf, planOf}
-use Rattle.state.specs.Sonde.{up, freshCounters, goodCounted, exceptionCounted, freshSonde, sensorAt, setupAt, withSensor, withSetup, countedGood, countedException, addressValid, validSonde}
+use Rattle.state.specs.Sonde.{incremented, freshCounters, goodCounted, exceptionCounted, freshSonde, sensorAt, setupAt, withSensor, withSetup, countedGood, countedException, addressValid, validSonde}
 use Rattle.calls.specs.Agrees.{openings, sameCalibrations, journalAgrees, agrees}
 use Rattle.calls.specs.Calls.{beginOf}
-use Rattle.calls.specs.Frame.{sent, refusal, writtenReply, confirmation, spareIn, writeAt, maskedWord, judged, frameOf}
+use Rattle.calls.specs.Frame.{sent, refusal, writtenReply, confirmation, spareIn, writeAt, maskedWord, admitted, frameOf}
 use Rattle.starred.specs.Starred.{Starred, worked, told, begunWith, beginTold, asked, next, frameTold, inMode}
 
 pub starred : Starred
 unfolding crcBit crcBits crcByte crcFrom crcOf checksumOf framed bodyOf isGood overlay
-    writeOneOf writeMaskOf requestOf maskedOf marked exceptionBody echoReply exceptionReply
-    ofBits toBits round sub mul div le eq near minus finite floatOf highWord lowWord sameBits isPlusZero
+    writeOneOf writeMaskOf requestOf maskedOf markedOf exceptionBody echoReply exceptionReply
+    ofBits toBits round sub mul div le eq near nearMinus finite floatOf highWord lowWord sameBits isPlusZero
     allFinite sameCoefficients sameCalibration defaultsOf inLimits methodOf candidateOf verdictOf judgedOf
-    methodAllowed pointsFinite samePoints validEntry replacedBy capacityOf entryWords numberAt floatAt entryAt validOpening header beginWords appendOf
+    methodAllowed pointsFinite samePoints validEntry replacedBy capacityOf entryWords numberAt floatAt entryAt validCalibration header beginWords storesOf appendOf
     validHeader openingAt validOpenings validEntryAt chainOf validLink validChain validChains validEntries valid replayOf replays
     idOf defaultUnits unitsAllowed levelAllowed ownerBit owns holds exactly fieldAt wholeField spanOf
-    freshParameter freshSetup freshSensor unitsValid levelValid sentinelsFinite validSetup validSensor restarted calibratedAt sensorWithSetup
+    newProcedure freshParameter freshParameters freshSetup freshSensor unitsValid levelValid validParameter validParameters validProcedure validSetup validSensor restarted calibratedAt sensorWithSetup
     modeOf headRegister sensorRegister updated commanded fieldWritten writeOf targetOf planOf
-    up freshCounters goodCounted exceptionCounted freshSonde sensorAt setupAt withSensor withSetup countedGood countedException addressValid validSonde
-    openings sameCalibrations journalAgrees agrees beginOf sent refusal writtenReply confirmation spareIn writeAt maskedWord judged frameOf
+    incremented freshCounters goodCounted exceptionCounted freshSonde sensorAt setupAt withSensor withSetup countedGood countedException addressValid validSonde
+    openings sameCalibrations journalAgrees agrees beginOf sent refusal writtenReply confirmation spareIn writeAt maskedWord admitted frameOf
     worked told begunWith beginTold asked next frameTold inMode
 starred =
     record {

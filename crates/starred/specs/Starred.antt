@@ -21,7 +21,7 @@ use Rattle.calls.specs.Frame.{Outcome, frameOf}
 
 -- the bits of coefficients
 abbrev pub bits : Coefficients → List ℕ
-bits c = toBits binary32 (c .first) ∷ toBits binary32 (c .second) ∷ toBits binary32 (c .third) ∷ []
+bits c = toBits binary32 (c .coefficient1) ∷ toBits binary32 (c .coefficient2) ∷ toBits binary32 (c .coefficient3) ∷ []
 
 -- a candidate as numbers: the bits of its coefficients, if there are any
 unfoldable pub worked : Candidate → List ℕ
@@ -37,8 +37,8 @@ told NotFinite = codeOf NotFinite ∷ []
 told Undefined = codeOf Undefined ∷ []
 
 -- whole numbers as floats
-abbrev pub whole : ℕ → Float
-whole n = near n 1
+abbrev pub integer : ℕ → Float
+integer n = near n 1
 
 -- a fresh sonde of address 1 begins a volume of so many words
 unfoldable pub begunWith : ℕ → Begun
@@ -77,19 +77,19 @@ pub record Starred : Type 0 where
   -- "CRC of "123456789" is 0x4B37"
   pub crc-of-digits : crcOf (0x31 ∷ 0x32 ∷ 0x33 ∷ 0x34 ∷ 0x35 ∷ 0x36 ∷ 0x37 ∷ 0x38 ∷ 0x39 ∷ []) ≡ 0x4B37
   -- "Points (10, 21), (2, 5): 1 and 2"
-  pub two-points : worked (candidateOf (TwoPoints (whole 10) (whole 21) (whole 2) (whole 5))) ≡ 0x3F800000 ∷ 0x40000000 ∷ 0 ∷ []
+  pub two-points : worked (candidateOf (TwoPoints (integer 10) (integer 21) (integer 2) (integer 5))) ≡ 0x3F800000 ∷ 0x40000000 ∷ 0 ∷ []
   -- "(8, 9), (0, 0) on sensor 2: 0 and 1.125, accepted"
-  pub slope-accepted : told (judgedOf 2 (TwoPoints (whole 8) (whole 9) (whole 0) (whole 0))) ≡ 0 ∷ 0 ∷ 0x3F900000 ∷ 0 ∷ []
+  pub slope-accepted : told (judgedOf 2 (TwoPoints (integer 8) (integer 9) (integer 0) (integer 0))) ≡ 0 ∷ 0 ∷ 0x3F900000 ∷ 0 ∷ []
   -- "y1 10 instead: 1.25, 0x97"
-  pub slope-worked : worked (candidateOf (TwoPoints (whole 8) (whole 10) (whole 0) (whole 0))) ≡ 0 ∷ 0x3FA00000 ∷ 0 ∷ []
-  pub slope-refused : told (judgedOf 2 (TwoPoints (whole 8) (whole 10) (whole 0) (whole 0))) ≡ 0x97 ∷ []
+  pub slope-worked : worked (candidateOf (TwoPoints (integer 8) (integer 10) (integer 0) (integer 0))) ≡ 0 ∷ 0x3FA00000 ∷ 0 ∷ []
+  pub slope-refused : told (judgedOf 2 (TwoPoints (integer 8) (integer 10) (integer 0) (integer 0))) ≡ 0x97 ∷ []
   -- "Sensor 2, direct, offset 0: slope bits 0x3F99999A accepted, 0x3F99999B 0x97"
   pub at-the-limit : told (judgedOf 2 (Direct plusZero (ofBits binary32 0x3F99999A) plusZero)) ≡ 0 ∷ 0 ∷ 0x3F99999A ∷ 0 ∷ []
   pub past-the-limit : told (judgedOf 2 (Direct plusZero (ofBits binary32 0x3F99999B) plusZero)) ≡ 0x97 ∷ []
   -- "One point (1000, 1250) on sensor 1: constant 0x3FA00000"
-  pub one-point : told (judgedOf 1 (OnePoint (whole 1000) (whole 1250))) ≡ 0 ∷ 0 ∷ 0x3FA00000 ∷ 0 ∷ []
+  pub one-point : told (judgedOf 1 (OnePoint (integer 1000) (integer 1250))) ≡ 0 ∷ 0 ∷ 0x3FA00000 ∷ 0 ∷ []
   -- "One point, x1 = -0.0: 0x97"
-  pub minus-zero : told (judgedOf 1 (OnePoint (ofBits binary32 0x80000000) (whole 1250))) ≡ 0x97 ∷ []
+  pub minus-zero : told (judgedOf 1 (OnePoint (ofBits binary32 0x80000000) (integer 1250))) ≡ 0x97 ∷ []
   -- "Mask on command, mode on, A 0, B 0xE001: an update"
   pub mask-updates : frameTold (next inMode masked) ≡ 0 ∷ 1 ∷ masked
   -- "88 words: capacity 1; 87: number 2"

@@ -19,21 +19,21 @@ abbrev pub counters : ℕ → ℕ → ℕ → Counters
 counters good bad exceptions = record { good = good; bad = bad; exceptions = exceptions }
 
 -- "counters stop at 65535"
-unfoldable pub up : ℕ → ℕ
-up n = cond (ltb n 65535) (suc n) 65535
+unfoldable pub incremented : ℕ → ℕ
+incremented n = cond (ltb n 65535) (suc n) 65535
 
 unfoldable pub freshCounters : Counters
 freshCounters = counters 0 0 0
 
 unfoldable pub goodCounted : Counters → Counters
-goodCounted c = counters (up (c .good)) (c .bad) (c .exceptions)
+goodCounted c = counters (incremented (c .good)) (c .bad) (c .exceptions)
 
 unfoldable pub badCounted : Counters → Counters
-badCounted c = counters (c .good) (up (c .bad)) (c .exceptions)
+badCounted c = counters (c .good) (incremented (c .bad)) (c .exceptions)
 
 -- "Others count good, and a refused one also as exception"
 unfoldable pub exceptionCounted : Counters → Counters
-exceptionCounted c = counters (up (c .good)) (c .bad) (up (c .exceptions))
+exceptionCounted c = counters (incremented (c .good)) (c .bad) (incremented (c .exceptions))
 
 -- ---- the sonde
 
@@ -49,18 +49,21 @@ abbrev pub noSensor : Sensor
 noSensor =
     record {
       setup = record {
-        calibrating = false;
-        active = record { first = nan; second = nan; third = nan; time = 0 };
-        trial = record { first = nan; second = nan; third = nan };
-        method = 0;
-        points = record { x1 = nan; y1 = nan; x2 = nan; y2 = nan };
-        next = 0;
-        level = 0;
-        first = record { units = 0; sentinel = nan };
-        second = record { units = 0; sentinel = nan };
-        third = record { units = 0; sentinel = nan };
+        procedure = record {
+          calibrating = false;
+          trial = record { coefficient1 = nan; coefficient2 = nan; coefficient3 = nan };
+          method = 0;
+          points = record { x1 = nan; y1 = nan; x2 = nan; y2 = nan };
+        };
+        active = record { calibration = record { coefficient1 = nan; coefficient2 = nan; coefficient3 = nan; time = 0 }; next = 0 };
+        parameters = record {
+          level = 0;
+          parameter1 = record { units = 0; sentinel = nan };
+          parameter2 = record { units = 0; sentinel = nan };
+          parameter3 = record { units = 0; sentinel = nan };
+        };
       };
-      sample = record { present = false; first = nan; second = nan };
+      sample = record { present = false; raw1 = nan; raw2 = nan };
     }
 
 -- sensor 1, 2, 3 or 4
@@ -78,7 +81,7 @@ withSetup d s x = withSensor d s (sensorWithSetup (sensorAt d s) x)
 
 -- "Measure stores the raws that it reads"
 unfoldable pub measuredAt : Sonde → ℕ → Bool → Float → Float → Sonde
-measuredAt d s present first second = withSensor d s (measuredSensor (sensorAt d s) s present first second)
+measuredAt d s present raw1 raw2 = withSensor d s (measuredSensor (sensorAt d s) s present raw1 raw2)
 
 unfoldable pub withCounters : Sonde → Counters → Sonde
 withCounters d c = sonde (d .address) (d .sensors) c

@@ -1,7 +1,7 @@
 // The state of a sonde: an address, four sensors and the message counters. It goes in and comes back by value.
 ghost use mathlib.Core.Path.{_≡_};
 ghost use Rattle.journal.specs.Journal.{IsSensor};
-ghost use Rattle.state.specs.Sonde.{up as upOf, freshCounters, goodCounted, badCounted, exceptionCounted, freshSonde, addressValid, validSonde, setupAt, withSetup, withCounters, measuredAt, countedGood, countedBad, countedException};
+ghost use Rattle.state.specs.Sonde.{incremented, freshCounters, goodCounted, badCounted, exceptionCounted, freshSonde, addressValid, validSonde, setupAt, withSetup, withCounters, measuredAt, countedGood, countedBad, countedException};
 use sensors::Sensor;
 use sensors::Setup;
 
@@ -22,8 +22,8 @@ pub struct Sonde {
 }
 
 // One more, up to 65535.
-fn up(n: u16) -> u16
-    ensures { λ r. ⌜ r ≡ upOf n ⌝ }
+fn increment(n: u16) -> u16
+    ensures { λ r. ⌜ r ≡ incremented n ⌝ }
 {
     if n < 65535 {
         return n + 1;
@@ -45,7 +45,7 @@ impl Counters {
     pub fn count_good(mut self) -> Self
         ensures { λ r. ⌜ r ≡ goodCounted self ⌝ }
     {
-        let n = up(self.good);
+        let n = increment(self.good);
         self.good = n;
         self
     }
@@ -53,7 +53,7 @@ impl Counters {
     pub fn count_bad(mut self) -> Self
         ensures { λ r. ⌜ r ≡ badCounted self ⌝ }
     {
-        let n = up(self.bad);
+        let n = increment(self.bad);
         self.bad = n;
         self
     }
@@ -62,8 +62,8 @@ impl Counters {
     pub fn count_exception(mut self) -> Self
         ensures { λ r. ⌜ r ≡ exceptionCounted self ⌝ }
     {
-        let n = up(self.good);
-        let m = up(self.exceptions);
+        let n = increment(self.good);
+        let m = increment(self.exceptions);
         self.good = n;
         self.exceptions = m;
         self
@@ -131,13 +131,13 @@ impl Sonde {
     }
 
     // A measurement of a sensor.
-    pub fn measure(mut self, sensor: u16, present: bool, first: f32, second: f32) -> Self
+    pub fn measure(mut self, sensor: u16, present: bool, raw1: f32, raw2: f32) -> Self
         requires { ⌜ IsSensor sensor ⌝ }
-        ensures { λ r. ⌜ r ≡ measuredAt self sensor present first second ⌝ }
+        ensures { λ r. ⌜ r ≡ measuredAt self sensor present raw1 raw2 ⌝ }
     {
         let i = (sensor as usize) - 1;
         let before = self.sensors[i];
-        let after = before.measure(sensor, present, first, second);
+        let after = before.measure(sensor, present, raw1, raw2);
         self.sensors[i] = after;
         self
     }

@@ -1,4 +1,4 @@
--- `frames::confirm` meets its contract. Assumes nothing.
+-- No reply at address 0, else the reply to the write. Assumes nothing.
 use mathlib.Core.Path.{refl}
 use borrow.Author.Tests.{eq-eqb, ne-eqb}
 use Rattle.rtu.specs.Frame.{overlay}

@@ -1,4 +1,4 @@
--- `frames::device` meets its contract. Assumes nothing.
+-- Assumes nothing.
 use Rattle.calls.specs.Frame.{deviceOf}
 use borrow.Author.Needs.{needs}
 use Rattle.frames.proofs.device.Statement.{statement}

@@ -1,4 +1,4 @@
--- `frames::fill` meets its contract. Assumes nothing.
+-- The registers of one owner are those from its offset on. Assumes nothing.
 use mathlib.Core.Path.{sym, _∙_}
 use lib.ListN.{length}
 use Rattle.state.specs.Sonde.{sensorAt}

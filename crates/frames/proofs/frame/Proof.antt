@@ -1,14 +1,14 @@
--- `frames::frame` meets its contract. Assumes nothing.
+-- The numbers come first, then the test of the frame; the effect of its body is put into the sonde. Assumes nothing.
 use mathlib.Core.Path.{_≡_, sym, _∙_}
 use mathlib.Core.Bool.{_&&_}
 use Rattle.calls.specs.Agrees.{agrees}
 use native.Mathlib.Omega.{arith}
-use Rattle.rtu.specs.Bytes.{Bytes}
+use Rattle.words.proofs.Bytes.{Bytes}
 use Rattle.rtu.specs.Frame.{overlay}
 use Rattle.rtu.proofs.RoundTrip.{good-is-framed, body-length}
 use Rattle.calls.proofs.Parts.{agrees-parts}
 use borrow.Author.Tests.{le-ltb, lt-ltb, not-false, not-true}
-use Rattle.calls.specs.Frame.{frameOf, judged}
+use Rattle.calls.specs.Frame.{frameOf, admitted}
 use borrow.Author.Needs.{needs}
 use Rattle.frames.proofs.frame.Statement.{statement}
 use Rattle.frames.proofs.frame.Tie as tie
@@ -27,7 +27,7 @@ returns-2 c =
     simp (le-ltb _ _ (v .before .if1 .left), ← v .is-valid .ensures, ← j .before .before .opening .ensures, ← j .journal-agrees .ensures, unfit, c .finish2 .ensures)
 
 returns-3 : tie.Need-returns-3
-unfolding frameOf agrees judged overlay
+unfolding frameOf agrees admitted overlay
 returns-3 c =
     let b = c .before .before in
     let d = b .before in
@@ -63,7 +63,7 @@ with-setup-requires c κs =
     rw (b .length2 .given .1) at (a .answer .ensures .1)
 
 returns-4 : tie.Need-returns-4
-unfolding frameOf agrees judged
+unfolding frameOf agrees admitted
 returns-4 c =
     let w = c .before in
     let l = w .before .before in
@@ -80,7 +80,7 @@ returns-4 c =
     simp (passed, ← v .is-valid .ensures, ← j .before .before .opening .ensures, ← j .journal-agrees .ensures, fit, ← e .is-good .ensures, good, ← b .body .ensures, ← a .answer .ensures .0, l .length .given .1, c .finish4 .ensures, w .with-counters .ensures)
 
 returns-5 : tie.Need-returns-5
-unfolding frameOf agrees judged
+unfolding frameOf agrees admitted
 returns-5 c =
     let w = c .before in
     let l = w .before .before in
@@ -97,7 +97,7 @@ returns-5 c =
     simp (passed, ← v .is-valid .ensures, ← j .before .before .opening .ensures, ← j .journal-agrees .ensures, fit, ← e .is-good .ensures, good, ← b .body .ensures, ← a .answer .ensures .0, l .size .given .1, c .finish5 .ensures, w .count-exception .ensures)
 
 returns-6 : tie.Need-returns-6
-unfolding frameOf agrees judged
+unfolding frameOf agrees admitted
 returns-6 c =
     let k = c .before in
     let w = k .before in

@@ -1,4 +1,4 @@
--- `frames::masked` meets its contract. Assumes nothing.
+-- Assumes nothing.
 use Rattle.state.specs.Sonde.{sensorAt}
 use Rattle.calls.specs.Frame.{maskedWord}
 use borrow.Author.Needs.{needs}

@@ -1,4 +1,4 @@
--- `frames::put_written` meets its contract. Assumes nothing.
+-- Function 16 is answered by start and count, the others by the request. Assumes nothing.
 use borrow.Author.Tests.{eq-eqb, ne-eqb}
 use Rattle.calls.specs.Frame.{writtenReply}
 use borrow.Author.Needs.{needs}

@@ -1,4 +1,4 @@
--- `frames::read` meets its contract. Assumes nothing.
+-- The words that were filled in are those that the registers show. Assumes nothing.
 use mathlib.Core.Path.{_≡_, sym, _∙_}
 use mathlib.Core.List.{List, _++_}
 use Prim.Native.Nat.{ℕ, _≤_}

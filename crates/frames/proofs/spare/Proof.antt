@@ -1,4 +1,4 @@
--- `frames::spare` meets its contract. Assumes nothing.
+-- Assumes nothing.
 use Rattle.calls.specs.Frame.{spareIn}
 use borrow.Author.Needs.{needs}
 use Rattle.frames.proofs.spare.Statement.{statement}

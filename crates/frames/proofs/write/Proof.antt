@@ -1,4 +1,4 @@
--- `frames::write` meets its contract. Assumes nothing.
+-- Each answer of the field's write has its reply and its words. Assumes nothing.
 use mathlib.Core.Path.{refl, sym, _∙_}
 use lib.ListN.{length, getD}
 use borrow.Author.Tests.{ltb-true}

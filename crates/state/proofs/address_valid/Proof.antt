@@ -1,4 +1,4 @@
--- `state::address_valid` meets its contract. Assumes nothing.
+-- Assumes nothing.
 use borrow.Author.Needs.{needs}
 use Rattle.state.specs.Sonde.{addressValid}
 use Rattle.state.proofs.address_valid.Statement.{statement}

@@ -1,4 +1,4 @@
--- `state::Counters::count_bad` meets its contract. Assumes nothing.
+-- Assumes nothing.
 use Rattle.state.specs.Sonde.{badCounted}
 use borrow.Author.Needs.{needs}
 use Rattle.state.proofs.Counters.count_bad.Statement.{statement}
@@ -6,7 +6,7 @@ use Rattle.state.proofs.Counters.count_bad.Tie as tie
 
 returns : tie.Need-returns
 unfolding badCounted
-returns c = simp (← c .up .ensures)
+returns c = simp (← c .increment .ensures)
 
 pub count-bad-spec : {M : Type 1} → statement M
 count-bad-spec = tie.close (tie.spec (λ c κs. search needs) returns)

@@ -1,4 +1,4 @@
--- `state::Counters::count_exception` meets its contract. Assumes nothing.
+-- Assumes nothing.
 use Rattle.state.specs.Sonde.{exceptionCounted}
 use borrow.Author.Needs.{needs}
 use Rattle.state.proofs.Counters.count_exception.Statement.{statement}
@@ -6,7 +6,7 @@ use Rattle.state.proofs.Counters.count_exception.Tie as tie
 
 returns : tie.Need-returns
 unfolding exceptionCounted
-returns c = simp (← c .before .up .ensures, ← c .up2 .ensures)
+returns c = simp (← c .before .increment .ensures, ← c .increment2 .ensures)
 
 pub count-exception-spec : {M : Type 1} → statement M
 count-exception-spec = tie.close (tie.spec (λ c κs. search needs) (λ c κs. search needs) returns)

@@ -1,4 +1,4 @@
--- `state::Counters::count_good` meets its contract. Assumes nothing.
+-- Assumes nothing.
 use Rattle.state.specs.Sonde.{goodCounted}
 use borrow.Author.Needs.{needs}
 use Rattle.state.proofs.Counters.count_good.Statement.{statement}
@@ -6,7 +6,7 @@ use Rattle.state.proofs.Counters.count_good.Tie as tie
 
 returns : tie.Need-returns
 unfolding goodCounted
-returns c = simp (← c .up .ensures)
+returns c = simp (← c .increment .ensures)
 
 pub count-good-spec : {M : Type 1} → statement M
 count-good-spec = tie.close (tie.spec (λ c κs. search needs) returns)

@@ -1,4 +1,4 @@
--- `state::Counters::fresh` meets its contract. Assumes nothing.
+-- Assumes nothing.
 use borrow.Author.Needs.{needs}
 use Rattle.state.specs.Sonde.{freshCounters}
 use Rattle.state.proofs.Counters.fresh.Statement.{statement}

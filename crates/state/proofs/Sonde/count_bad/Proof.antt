@@ -1,4 +1,4 @@
--- `state::Sonde::count_bad` meets its contract. Assumes nothing.
+-- Assumes nothing.
 use Rattle.state.specs.Sonde.{countedBad}
 use borrow.Author.Needs.{needs}
 use Rattle.state.proofs.Sonde.count_bad.Statement.{statement}

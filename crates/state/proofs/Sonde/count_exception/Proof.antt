@@ -1,4 +1,4 @@
--- `state::Sonde::count_exception` meets its contract. Assumes nothing.
+-- Assumes nothing.
 use Rattle.state.specs.Sonde.{countedException}
 use borrow.Author.Needs.{needs}
 use Rattle.state.proofs.Sonde.count_exception.Statement.{statement}

@@ -1,4 +1,4 @@
--- `state::Sonde::count_good` meets its contract. Assumes nothing.
+-- Assumes nothing.
 use Rattle.state.specs.Sonde.{countedGood}
 use borrow.Author.Needs.{needs}
 use Rattle.state.proofs.Sonde.count_good.Statement.{statement}

@@ -1,4 +1,4 @@
--- `state::Sonde::fresh` meets its contract. Assumes nothing.
+-- Assumes nothing.
 use Rattle.state.specs.Sonde.{freshSonde}
 use borrow.Author.Needs.{needs}
 use Rattle.state.proofs.Sonde.fresh.Statement.{statement}

@@ -1,4 +1,4 @@
--- `state::Sonde::is_valid` meets its contract. Assumes nothing.
+-- Assumes nothing.
 use Rattle.state.specs.Sonde.{sensorAt, validSonde}
 use borrow.Author.Needs.{needs}
 use Rattle.state.proofs.Sonde.is_valid.Statement.{statement}

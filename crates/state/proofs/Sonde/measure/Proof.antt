@@ -1,4 +1,4 @@
--- `state::Sonde::measure` meets its contract. Assumes nothing.
+-- Assumes nothing.
 use Rattle.state.specs.Sonde.{measuredAt, sensorAt, withSensor}
 use borrow.Author.Needs.{needs}
 use Rattle.state.proofs.Sonde.measure.Statement.{statement}

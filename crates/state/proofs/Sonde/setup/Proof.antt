@@ -1,4 +1,4 @@
--- `state::Sonde::setup` meets its contract. Assumes nothing.
+-- Assumes nothing.
 use mathlib.Core.Path.{refl}
 use Rattle.state.specs.Sonde.{sensorAt, setupAt}
 use borrow.Author.Needs.{needs}

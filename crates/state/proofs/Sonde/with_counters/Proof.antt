@@ -1,4 +1,4 @@
--- `state::Sonde::with_counters` meets its contract. Assumes nothing.
+-- Assumes nothing.
 use mathlib.Core.Path.{refl}
 use Rattle.state.specs.Sonde.{withCounters}
 use Rattle.state.proofs.Sonde.with_counters.Statement.{statement}

@@ -1,4 +1,4 @@
--- `state::Sonde::with_setup` meets its contract. Assumes nothing.
+-- Assumes nothing.
 use Rattle.state.specs.Sonde.{sensorAt, withSensor, withSetup}
 use borrow.Author.Needs.{needs}
 use Rattle.state.proofs.Sonde.with_setup.Statement.{statement}

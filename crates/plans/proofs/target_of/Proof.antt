@@ -1,9 +1,9 @@
--- `plans::locate` meets its contract. Assumes nothing.
+-- Assumes nothing.
 use borrow.Author.Tests.{eq-eqb, ne-eqb}
 use Rattle.plans.specs.Plans.{targetOf}
 use borrow.Author.Needs.{needs}
-use Rattle.plans.proofs.locate.Statement.{statement}
-use Rattle.plans.proofs.locate.Tie as tie
+use Rattle.plans.proofs.target_of.Statement.{statement}
+use Rattle.plans.proofs.target_of.Tie as tie
 
 returns : tie.Need-returns
 unfolding targetOf
@@ -21,8 +21,8 @@ returns-4 : tie.Need-returns-4
 unfolding targetOf
 returns-4 c = simp (← c .before .before .before .span .ensures, c .before .enum-told2 .given .1, c .code-of2 .ensures)
 
-pub locate-spec : {M : Type 1} → statement M
-locate-spec =
+pub target-of-spec : {M : Type 1} → statement M
+target-of-spec =
     tie.close
     (tie.spec
     (λ c κs. search needs)

@@ -1,12 +1,13 @@
 -- What a frame changes of a sonde, as the code hands it on: the counters, or the setup of the sensor that was written, with the length of
--- the reply. The sonde itself is put together once, at the end. Assumes nothing.
+-- the reply. The sonde itself is put together once, at the end. No reader has to believe these definitions: `write-leaves`
+-- (frames/proofs/Effects) says that they leave what the definition of the frame call does. Assumes nothing.
 use mathlib.Core.List.{List}
 use Prim.Native.Nat.{ℕ}
 use lib.ListN.{length}
 use Rattle.journal.specs.Journal.{IsSensor}
 use Rattle.journal.specs.Stores.{appendOf}
-use Rattle.writes.specs.declared.Written.{Written}
-use Rattle.writes.specs.declared.Written.the-variants.{Refused as RefusedBy, Stored as StoredBy, Updated}
+use Rattle.commands.specs.declared.Written.{Written}
+use Rattle.commands.specs.declared.Written.the-variants.{Refused as RefusedBy, Stored as StoredBy, Updated}
 use Rattle.state.specs.Sonde.{withSetup, withCounters, countedGood, countedException}
 use Rattle.state.specs.declared.Sonde.{Sonde}
 use Rattle.calls.specs.declared.SondeFrame.{SondeFrame}

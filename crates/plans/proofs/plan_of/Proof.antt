@@ -1,4 +1,4 @@
--- `plans::judge` meets its contract: its two tests are the choices of the definition, by cases. Assumes nothing.
+-- `plans::plan_of` meets its contract: its two tests are the choices of the definition, by cases. Assumes nothing.
 use mathlib.Core.Path.{_≡_, refl, sym}
 use mathlib.Core.Bool.{Bool, true, false, _&&_, not, cond}
 use lib.Dec.{eqb}
@@ -7,8 +7,8 @@ use borrow.Author.Tests.{not-true}
 use Rattle.floats.proofs.Bools.{no, both}
 use Rattle.plans.specs.Plans.{planOf}
 use Rattle.plans.specs.declared.Plan.{Plan}
-use Rattle.plans.proofs.judge.Statement.{statement}
-use Rattle.plans.proofs.judge.Tie as tie
+use Rattle.plans.proofs.plan_of.Statement.{statement}
+use Rattle.plans.proofs.plan_of.Tie as tie
 
 -- z: address 0; t: function 3; o: the own address
 asked : (z t o : Bool) (b a f : Plan) → (z && t) ≡ false → (not z && not o) ≡ false → cond z (cond t b a) (cond o a f) ≡ a
@@ -40,11 +40,11 @@ returns-3 c =
     let f = d .before .before .function in
     let a = d .before .before .before .address in
     let own = d .before .before .before .before .before .args .own in
-    rw (← a .ensures, ← f .ensures, ← c .before .decode .ensures, ← c .on-map .ensures)
+    rw (← a .ensures, ← f .ensures, ← c .before .decode .ensures, ← c .plan-request .ensures)
     (sym (asked (eqb (a .result) 0) (eqb (f .result) 3) (eqb (a .result) own) _ _ _ (d .before .if1 .left) (d .if2 .left)))
 
-pub judge-spec : {M : Type 1} → statement M
-judge-spec =
+pub plan-of-spec : {M : Type 1} → statement M
+plan-of-spec =
     tie.close
     (tie.spec
     (λ c κs. search needs)
