@@ -53,25 +53,35 @@ enum {
 
 /* ---- the sonde. A host copies it and need not look inside; a sonde that it builds by hand has to be valid (number 4). ---- */
 
-typedef struct { float first, second, third; } SondeCoefficients;
-typedef struct { float first, second, third; uint32_t time; } SondeCalibration;
+typedef struct { float coefficient1, coefficient2, coefficient3; } SondeCoefficients;
+typedef struct { float coefficient1, coefficient2, coefficient3; uint32_t time; } SondeCalibration;
 typedef struct { float x1, y1, x2, y2; } SondePoints;
 typedef struct { uint16_t units; float sentinel; } SondeParameter;
 
-/* What frames write, and what a calibration decides. */
+/* A calibration in progress. */
 typedef struct {
     bool calibrating;         /* calibration mode */
-    SondeCalibration active;  /* the coefficients in force, and when they were calibrated */
     SondeCoefficients trial;  /* those that mode shows and changes */
     uint16_t method;          /* 0 direct, 1 one point, 2 two points */
     SondePoints points;
-    uint32_t next;            /* the next calibration's time */
-    uint16_t level;           /* the level parameter's id, on sensor 3 */
-    SondeParameter first, second, third;
-} SondeSetup;
+} SondeProcedure;
 
-/* What measurements write. */
-typedef struct { bool present; float first, second; } SondeSample;
+/* The calibration in force. */
+typedef struct {
+    SondeCalibration calibration;  /* the coefficients, and when they were calibrated */
+    uint32_t next;                 /* the next calibration's time */
+} SondeActive;
+
+typedef struct {
+    uint16_t level;  /* the level parameter's id, on sensor 3 */
+    SondeParameter parameter1, parameter2, parameter3;
+} SondeParameters;
+
+/* What frames write, and what a calibration decides. */
+typedef struct { SondeProcedure procedure; SondeActive active; SondeParameters parameters; } SondeSetup;
+
+/* What measurements write: the raw values, of which the second is sensor 1's temperature. */
+typedef struct { bool present; float raw1, raw2; } SondeSample;
 
 typedef struct { SondeSetup setup; SondeSample sample; } SondeSensor;
 
@@ -107,7 +117,7 @@ SondeMade sonde_power_up(uint8_t address, const uint16_t *volume, size_t words);
  * A measurement of sensor 1..4, with its raw values. The second is read for sensor 1 only (its temperature). Not present, none is read and
  * the old ones stay. Refused by 4 (the sonde alone is looked at), 5, then 6; the sonde is then the one that went in.
  */
-SondeMade sonde_measure(Sonde sonde, uint8_t sensor, bool present, float first, float second);
+SondeMade sonde_measure(Sonde sonde, uint8_t sensor, bool present, float raw1, float raw2);
 
 /*
  * One Modbus RTU frame, whole and with its checksum, at this clock (whole seconds). `length` bytes of the reply buffer are the reply to send,

@@ -100,7 +100,7 @@ int main(void) {
     made = sonde_power_up(18, volume, WORDS);
     check(made.number == SONDE_OK, "power-up at address 18");
     s = made.sonde;
-    check(memcmp(&s.sensors[1].setup.active, &(SondeCalibration){0.0f, 1.125f, 0.0f, 0x12345678}, sizeof(SondeCalibration)) == 0,
+    check(memcmp(&s.sensors[1].setup.active.calibration, &(SondeCalibration){0.0f, 1.125f, 0.0f, 0x12345678}, sizeof(SondeCalibration)) == 0,
           "the calibration is replayed, bit for bit");
     s = ask(s, BYTES(18, 3, 0, 210, 0, 4), BYTES(18, 3, 8, 0, 0, 0, 0, 0x3F, 0x90, 0, 0), "offset 0 and slope 1.125 again");
     s = ask(s, BYTES(18, 3, 0, 205, 0, 1), BYTES(18, 3, 2, 0, 0), "mode is off");
@@ -112,7 +112,7 @@ int main(void) {
     check(sonde_audit(s, volume, WORDS).number == SONDE_INVALID, "audit of a changed entry: number 4");
     check(sonde_power_up(18, volume, WORDS).number == SONDE_INVALID, "power-up from a changed entry: number 4");
     volume[64 + 6] ^= 1;
-    s.sensors[1].setup.active.time ^= 1;
+    s.sensors[1].setup.active.calibration.time ^= 1;
     check(sonde_audit(s, volume, WORDS).number == SONDE_INVALID, "audit of another last calibration: number 4");
 
     return failed;

@@ -3,17 +3,17 @@
 #[repr(C)]
 #[derive(Clone, Copy, Debug, Default, PartialEq)]
 pub struct Coefficients {
-    pub first: f32,
-    pub second: f32,
-    pub third: f32,
+    pub coefficient1: f32,
+    pub coefficient2: f32,
+    pub coefficient3: f32,
 }
 
 #[repr(C)]
 #[derive(Clone, Copy, Debug, Default, PartialEq)]
 pub struct Calibration {
-    pub first: f32,
-    pub second: f32,
-    pub third: f32,
+    pub coefficient1: f32,
+    pub coefficient2: f32,
+    pub coefficient3: f32,
     pub time: u32,
 }
 
@@ -33,27 +33,47 @@ pub struct Parameter {
     pub sentinel: f32,
 }
 
+/// A calibration in progress.
 #[repr(C)]
 #[derive(Clone, Copy, Debug, Default, PartialEq)]
-pub struct Setup {
+pub struct Procedure {
     pub calibrating: bool,
-    pub active: Calibration,
     pub trial: Coefficients,
     pub method: u16,
     pub points: Points,
+}
+
+/// The calibration in force.
+#[repr(C)]
+#[derive(Clone, Copy, Debug, Default, PartialEq)]
+pub struct Active {
+    pub calibration: Calibration,
     pub next: u32,
+}
+
+#[repr(C)]
+#[derive(Clone, Copy, Debug, Default, PartialEq)]
+pub struct Parameters {
     pub level: u16,
-    pub first: Parameter,
-    pub second: Parameter,
-    pub third: Parameter,
+    pub parameter1: Parameter,
+    pub parameter2: Parameter,
+    pub parameter3: Parameter,
+}
+
+#[repr(C)]
+#[derive(Clone, Copy, Debug, Default, PartialEq)]
+pub struct Setup {
+    pub procedure: Procedure,
+    pub active: Active,
+    pub parameters: Parameters,
 }
 
 #[repr(C)]
 #[derive(Clone, Copy, Debug, Default, PartialEq)]
 pub struct Sample {
     pub present: bool,
-    pub first: f32,
-    pub second: f32,
+    pub raw1: f32,
+    pub raw2: f32,
 }
 
 #[repr(C)]
@@ -108,7 +128,7 @@ extern "C" {
     pub fn sonde_fresh(address: u8) -> Made;
     pub fn sonde_begin(sonde: Sonde, volume: *mut u16, words: usize) -> u8;
     pub fn sonde_power_up(address: u8, volume: *const u16, words: usize) -> Made;
-    pub fn sonde_measure(sonde: Sonde, sensor: u8, present: bool, first: f32, second: f32) -> Made;
+    pub fn sonde_measure(sonde: Sonde, sensor: u8, present: bool, raw1: f32, raw2: f32) -> Made;
     pub fn sonde_frame(
         sonde: Sonde,
         frame: *const u8,

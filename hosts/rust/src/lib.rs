@@ -141,9 +141,9 @@ impl Sonde {
     /// # Ok::<(), Error>(())
     /// ```
     pub fn measure(&mut self, sensor: u8, raws: Option<(f32, f32)>) -> Result<(), Error> {
-        let (first, second) = raws.unwrap_or_default();
+        let (raw1, raw2) = raws.unwrap_or_default();
         // SAFETY: a call by value alone.
-        let made = unsafe { ffi::sonde_measure(self.0, sensor, raws.is_some(), first, second) };
+        let made = unsafe { ffi::sonde_measure(self.0, sensor, raws.is_some(), raw1, raw2) };
         self.0 = made.sonde;
         done(made.number)
     }

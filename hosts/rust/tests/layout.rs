@@ -87,6 +87,9 @@ fn of_source() -> Layout {
         "Calibration",
         "Points",
         "Parameter",
+        "Procedure",
+        "Active",
+        "Parameters",
         "Setup",
         "Sample",
         "Sensor",
@@ -142,12 +145,15 @@ fn of_bindings() -> Layout {
             layout.insert($header.to_string(), (size_of::<ffi::$name>(), fields));
         };
     }
-    of!("SondeCoefficients", Coefficients: first second third);
-    of!("SondeCalibration", Calibration: first second third time);
+    of!("SondeCoefficients", Coefficients: coefficient1 coefficient2 coefficient3);
+    of!("SondeCalibration", Calibration: coefficient1 coefficient2 coefficient3 time);
     of!("SondePoints", Points: x1 y1 x2 y2);
     of!("SondeParameter", Parameter: units sentinel);
-    of!("SondeSetup", Setup: calibrating active trial method points next level first second third);
-    of!("SondeSample", Sample: present first second);
+    of!("SondeProcedure", Procedure: calibrating trial method points);
+    of!("SondeActive", Active: calibration next);
+    of!("SondeParameters", Parameters: level parameter1 parameter2 parameter3);
+    of!("SondeSetup", Setup: procedure active parameters);
+    of!("SondeSample", Sample: present raw1 raw2);
     of!("SondeSensor", Sensor: setup sample);
     of!("SondeCounters", Counters: good bad exceptions);
     of!("Sonde", Sonde: address sensors counters);
@@ -225,39 +231,43 @@ fn telling(calibrating: bool) -> ffi::Sonde {
     };
     for (i, sensor) in sonde.sensors.iter_mut().enumerate() {
         let n = i as f32 / 64.0;
-        let setup = &mut sensor.setup;
-        setup.calibrating = calibrating;
-        setup.active = ffi::Calibration {
-            first: n,
-            second: 1.0 + n,
-            third: if i == 2 { 5.0 } else { 0.0 },
-            time: 0x1_0002 + i as u32,
+        sensor.setup.procedure = ffi::Procedure {
+            calibrating,
+            trial: ffi::Coefficients {
+                coefficient1: 20.0 + n,
+                coefficient2: 30.0 + n,
+                coefficient3: 40.0 + n,
+            },
+            method: if i == 2 { 0 } else { 1 + i as u16 % 2 },
+            points: ffi::Points {
+                x1: 50.0 + n,
+                y1: 60.0 + n,
+                x2: 70.0 + n,
+                y2: 80.0 + n,
+            },
         };
-        setup.trial = ffi::Coefficients {
-            first: 20.0 + n,
-            second: 30.0 + n,
-            third: 40.0 + n,
+        sensor.setup.active = ffi::Active {
+            calibration: ffi::Calibration {
+                coefficient1: n,
+                coefficient2: 1.0 + n,
+                coefficient3: if i == 2 { 5.0 } else { 0.0 },
+                time: 0x1_0002 + i as u32,
+            },
+            next: 0x3_0004 + i as u32,
         };
-        setup.method = if i == 2 { 0 } else { 1 + i as u16 % 2 };
-        setup.points = ffi::Points {
-            x1: 50.0 + n,
-            y1: 60.0 + n,
-            x2: 70.0 + n,
-            y2: 80.0 + n,
-        };
-        setup.next = 0x3_0004 + i as u32;
-        setup.level = 4;
-        setup.first.sentinel = 90.0 + n;
-        setup.second.sentinel = 91.0 + n;
-        setup.third.sentinel = 92.0 + n;
+        let parameters = &mut sensor.setup.parameters;
+        parameters.level = 4;
+        parameters.parameter1.sentinel = 90.0 + n;
+        parameters.parameter2.sentinel = 91.0 + n;
+        parameters.parameter3.sentinel = 92.0 + n;
         sensor.sample = ffi::Sample {
             present: i != 3,
-            first: 100.0 + n,
-            second: 110.0 + n,
+            raw1: 100.0 + n,
+            raw2: 110.0 + n,
         };
     }
-    sonde.sensors[0].setup.first.units = 2;
-    sonde.sensors[2].setup.first.units = 19;
+    sonde.sensors[0].setup.parameters.parameter1.units = 2;
+    sonde.sensors[2].setup.parameters.parameter1.units = 19;
     sonde
 }
 
@@ -271,13 +281,14 @@ fn setups_are_read_where_they_stand() {
     for calibrating in [false, true] {
         let sonde = telling(calibrating);
         for (number, sensor) in (1u16..).zip(sonde.sensors) {
-            let setup = sensor.setup;
-            let (time, next) = (words(setup.active.time), words(setup.next));
+            let ffi::Setup { procedure, active, .. } = sensor.setup;
+            let (calibration, trial) = (active.calibration, procedure.trial);
+            let (time, next) = (words(calibration.time), words(active.next));
             let head = [number, time[0], time[1], next[0], next[1], u16::from(calibrating)];
             assert_eq!(registers(sonde, 100 * number, 6), head);
             let shown = match calibrating {
-                true => [setup.trial.first, setup.trial.second, setup.trial.third],
-                false => [setup.active.first, setup.active.second, setup.active.third],
+                true => [trial.coefficient1, trial.coefficient2, trial.coefficient3],
+                false => [calibration.coefficient1, calibration.coefficient2, calibration.coefficient3],
             };
             let count = if number == 3 { 3 } else { 2 };
             assert_eq!(
@@ -285,12 +296,12 @@ fn setups_are_read_where_they_stand() {
                 shown[..count].iter().flat_map(|x| words(x.to_bits())).collect::<Vec<_>>()
             );
             if number != 3 {
-                let points = [setup.points.x1, setup.points.y1, setup.points.x2, setup.points.y2];
+                let ffi::Points { x1, y1, x2, y2 } = procedure.points;
                 assert_eq!(
                     registers(sonde, 100 * number + 16, 8),
-                    points.iter().flat_map(|x| words(x.to_bits())).collect::<Vec<_>>()
+                    [x1, y1, x2, y2].iter().flat_map(|x| words(x.to_bits())).collect::<Vec<_>>()
                 );
-                assert_eq!(registers(sonde, 100 * number + 6, 1), [setup.method]);
+                assert_eq!(registers(sonde, 100 * number + 6, 1), [procedure.method]);
             }
         }
     }
@@ -300,8 +311,8 @@ fn setups_are_read_where_they_stand() {
 fn parameters_and_samples_are_read_where_they_stand() {
     let sonde = telling(true);
     for (number, counts) in [(1u16, 3u16), (2, 1), (3, 2), (4, 1)] {
-        let setup = sonde.sensors[usize::from(number) - 1].setup;
-        for (k, parameter) in (0..counts).zip([setup.first, setup.second, setup.third]) {
+        let all = sonde.sensors[usize::from(number) - 1].setup.parameters;
+        for (k, parameter) in (0..counts).zip([all.parameter1, all.parameter2, all.parameter3]) {
             let at = 100 * number + 30 + 8 * k;
             assert_eq!(registers(sonde, at + 3, 1), [parameter.units]);
             assert_eq!(registers(sonde, at + 5, 2), words(parameter.sentinel.to_bits()));
@@ -309,11 +320,14 @@ fn parameters_and_samples_are_read_where_they_stand() {
     }
     let [conductivity, oxygen, level, _] = sonde.sensors.map(|sensor| sensor.sample);
     // in mode: the raws, converted to the units; sensor 4 isn't present and shows its sentinel
-    assert_eq!(registers(sonde, 130, 2), words((conductivity.second * 1.8 + 32.0).to_bits()));
-    assert_eq!(registers(sonde, 138, 2), words(conductivity.first.to_bits()));
-    assert_eq!(registers(sonde, 230, 2), words(oxygen.first.to_bits()));
-    assert_eq!(registers(sonde, 330, 2), words((level.first * 6.894757).to_bits()));
+    assert_eq!(registers(sonde, 130, 2), words((conductivity.raw2 * 1.8 + 32.0).to_bits()));
+    assert_eq!(registers(sonde, 138, 2), words(conductivity.raw1.to_bits()));
+    assert_eq!(registers(sonde, 230, 2), words(oxygen.raw1.to_bits()));
+    assert_eq!(registers(sonde, 330, 2), words((level.raw1 * 6.894757).to_bits()));
     assert_eq!(registers(sonde, 340, 1), [4]);
     assert_eq!(registers(sonde, 434, 1), [7]);
-    assert_eq!(registers(sonde, 430, 2), words(sonde.sensors[3].setup.first.sentinel.to_bits()));
+    assert_eq!(
+        registers(sonde, 430, 2),
+        words(sonde.sensors[3].setup.parameters.parameter1.sentinel.to_bits())
+    );
 }

@@ -17,41 +17,47 @@ pub fn to_library(sonde: &Sonde) -> ffi::Sonde {
 }
 
 fn setup(settings: &Settings) -> ffi::Setup {
-    let [first, second, third] = settings.active.coefficients;
-    let [trial_first, trial_second, trial_third] = settings.trial;
+    let [coefficient1, coefficient2, coefficient3] = settings.active.coefficients;
+    let [trial1, trial2, trial3] = settings.trial;
     let [x1, y1, x2, y2] = settings.points;
     let parameter = |i: usize| ffi::Parameter {
         units: settings.units[i],
         sentinel: settings.sentinels[i],
     };
     ffi::Setup {
-        calibrating: settings.calibrating,
-        active: ffi::Calibration {
-            first,
-            second,
-            third,
-            time: settings.active.time,
+        procedure: ffi::Procedure {
+            calibrating: settings.calibrating,
+            trial: ffi::Coefficients {
+                coefficient1: trial1,
+                coefficient2: trial2,
+                coefficient3: trial3,
+            },
+            method: settings.method,
+            points: ffi::Points { x1, y1, x2, y2 },
         },
-        trial: ffi::Coefficients {
-            first: trial_first,
-            second: trial_second,
-            third: trial_third,
+        active: ffi::Active {
+            calibration: ffi::Calibration {
+                coefficient1,
+                coefficient2,
+                coefficient3,
+                time: settings.active.time,
+            },
+            next: settings.next,
         },
-        method: settings.method,
-        points: ffi::Points { x1, y1, x2, y2 },
-        next: settings.next,
-        level: settings.level_id,
-        first: parameter(0),
-        second: parameter(1),
-        third: parameter(2),
+        parameters: ffi::Parameters {
+            level: settings.level_id,
+            parameter1: parameter(0),
+            parameter2: parameter(1),
+            parameter3: parameter(2),
+        },
     }
 }
 
 fn sample(sample: &Sample) -> ffi::Sample {
     ffi::Sample {
         present: sample.present,
-        first: sample.raws[0],
-        second: sample.raws[1],
+        raw1: sample.raws[0],
+        raw2: sample.raws[1],
     }
 }
 
@@ -61,10 +67,10 @@ pub fn from_library(sonde: &ffi::Sonde) -> Sonde {
         address: sonde.address,
         settings: std::array::from_fn(|i| settings(&sonde.sensors[i].setup)),
         samples: std::array::from_fn(|i| {
-            let ffi::Sample { present, first, second } = sonde.sensors[i].sample;
+            let ffi::Sample { present, raw1, raw2 } = sonde.sensors[i].sample;
             Sample {
                 present,
-                raws: [first, second],
+                raws: [raw1, raw2],
             }
         }),
         counters: Counters { good, bad, exceptions },
@@ -72,27 +78,33 @@ pub fn from_library(sonde: &ffi::Sonde) -> Sonde {
 }
 
 fn settings(setup: &ffi::Setup) -> Settings {
+    let ffi::Setup {
+        procedure,
+        active,
+        parameters,
+    } = *setup;
     let ffi::Calibration {
-        first,
-        second,
-        third,
+        coefficient1,
+        coefficient2,
+        coefficient3,
         time,
-    } = setup.active;
-    let ffi::Points { x1, y1, x2, y2 } = setup.points;
-    let parameters = [setup.first, setup.second, setup.third];
+    } = active.calibration;
+    let trial = procedure.trial;
+    let ffi::Points { x1, y1, x2, y2 } = procedure.points;
+    let each = [parameters.parameter1, parameters.parameter2, parameters.parameter3];
     Settings {
-        calibrating: setup.calibrating,
+        calibrating: procedure.calibrating,
         active: Calibration {
-            coefficients: [first, second, third],
+            coefficients: [coefficient1, coefficient2, coefficient3],
             time,
         },
-        trial: [setup.trial.first, setup.trial.second, setup.trial.third],
-        method: setup.method,
+        trial: [trial.coefficient1, trial.coefficient2, trial.coefficient3],
+        method: procedure.method,
         points: [x1, y1, x2, y2],
-        next: setup.next,
-        level_id: setup.level,
-        units: parameters.map(|parameter| parameter.units),
-        sentinels: parameters.map(|parameter| parameter.sentinel),
+        next: active.next,
+        level_id: parameters.level,
+        units: each.map(|parameter| parameter.units),
+        sentinels: each.map(|parameter| parameter.sentinel),
     }
 }
 
@@ -100,13 +112,13 @@ fn settings(setup: &ffi::Setup) -> Settings {
 const SETTINGS: usize = 21;
 const SETTINGS_NAMES: [&str; SETTINGS] = [
     "calibrating",
-    "active first",
-    "active second",
-    "active third",
-    "active time",
-    "trial first",
-    "trial second",
-    "trial third",
+    "coefficient 1",
+    "coefficient 2",
+    "coefficient 3",
+    "last calibration",
+    "trial 1",
+    "trial 2",
+    "trial 3",
     "method",
     "x1",
     "y1",
