@@ -34,7 +34,6 @@ drawdown =
 
 pub record Worked : Type 0 where
   -- raw 4.0 at 25 °C: conductivity 1.0 + (0.5 × 4.0) is 3.0, resistivity 1000000 / 3.0
-  pub conductivity : registers 1 (measured 1 calibrated (near 4 1) (near 25 1)) 38 5 ≡ 0x4040 ∷ 0 ∷ 9 ∷ 65 ∷ 0 ∷ []
   pub resistivity : registers 1 (measured 1 calibrated (near 4 1) (near 25 1)) 46 5 ≡ 0x48A2 ∷ 0xC2AB ∷ 11 ∷ 81 ∷ 0 ∷ []
   -- in mode the raw, quality 6
   pub in-mode : registers 1 (measured 1 (restarted calibrated true) (near 4 1) (near 25 1)) 38 5 ≡ 0x4080 ∷ 0 ∷ 9 ∷ 65 ∷ 6 ∷ []
@@ -47,4 +46,4 @@ pub record Worked : Type 0 where
 -- by computation
 pub worked : Worked
 unfolding sensorRegister headRegister modeOf shownId parameterRegister readingRegister readingOf gradedReading workedFrom valueOf conductivityValue levelValue calibratedOf resistivityOf heightOf levelOfId pressureOf levelOf parameterOf freshParameter freshParameters freshSetup newProcedure restarted calibratedAt measuredOf idOf defaultUnits converted defaultsOf near round ofBits toBits finite highWord lowWord add sub mul div le eq
-worked = record { conductivity = refl; resistivity = refl; in-mode = refl; overflow = refl; level = refl }
+worked = record { resistivity = refl; in-mode = refl; overflow = refl; level = refl }
