@@ -60,18 +60,23 @@ fn instructions(index: usize, row: &Row, name: &str) -> Option<f64> {
     Some((count(COUNTED)? - count(0)?) / COUNTED as f64)
 }
 
-/// The counted run: one row of one side, so many calls.
+/// The counted run: one row of one side, so many calls. It has a thread's stack, which begins at a page: where the program's own begins depends
+/// on its path and its environment, and with the alignment of what is copied the count would too.
 fn counted(arguments: &[String]) {
     let [index, name, calls] = arguments else {
         eprintln!("bench takes no arguments");
         std::process::exit(2);
     };
     let number = |text: &String| text.parse::<usize>().expect("a number");
-    let rows = rows();
-    let row = &rows[number(index)];
-    let mut side = side(name).expect("a side");
-    row.prepare(side.as_mut());
-    row.repeat(side.as_mut(), number(calls));
+    let (index, name, calls) = (number(index), name.clone(), number(calls));
+    let run = std::thread::spawn(move || {
+        let rows = rows();
+        let row = &rows[index];
+        let mut side = side(&name).expect("a side");
+        row.prepare(side.as_mut());
+        row.repeat(side.as_mut(), calls);
+    });
+    run.join().expect("the counted run ends");
 }
 
 type Sides = [Option<f64>; 3];
