@@ -57,7 +57,7 @@ impl Coefficients {
     }
 
     // These coefficients, calibrated at a time.
-    pub fn at(self, time: u32) -> Calibration
+    pub fn calibration(self, time: u32) -> Calibration
         ensures { λ r. ⌜ r ≡ calibrationOf self time ⌝ }
     {
         Calibration {

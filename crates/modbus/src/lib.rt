@@ -46,7 +46,7 @@ pub fn function(body: &[u8]) -> u8
     body[1]
 }
 
-pub fn decode(body: &[u8]) -> Request
+pub fn decode_request(body: &[u8]) -> Request
     ensures { λ r. ⌜ r ≡ requestOf (now (body .entry)) ⌝ }
 {
     let f = function(body);

@@ -134,5 +134,5 @@ pub fn plan_of(own: u8, body: &[u8]) -> Plan
     if !broadcast & (address != own) {
         return Plan::Foreign;
     }
-    plan_request(modbus::decode(body))
+    plan_request(modbus::decode_request(body))
 }

@@ -165,7 +165,7 @@ impl Setup {
         Setup {
             procedure: Procedure::new(false, c),
             active: Active {
-                calibration: c.at(0),
+                calibration: c.calibration(0),
                 next: 0,
             },
             parameters: Parameters::fresh(sensor),
@@ -216,7 +216,7 @@ impl Setup {
         let mut procedure = self.procedure;
         procedure.trial = c;
         self.procedure = procedure;
-        let calibration = c.at(clock);
+        let calibration = c.calibration(clock);
         let mut active = self.active;
         active.calibration = calibration;
         active.next = 0;

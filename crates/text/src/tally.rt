@@ -1,6 +1,6 @@
 // Comparisons, counted.
 ghost use mathlib.Core.Path.{_≡_};
-ghost use Rattle.text.specs.Tally.{upOf, noneTallied, tallied};
+ghost use Rattle.text.specs.Tally.{oneMore, noneTallied, tallied};
 use libc::STDOUT_FILENO;
 
 // How many were compared, and how many of them differ. Each stops at the largest u64.
@@ -10,8 +10,8 @@ pub struct Tally {
 }
 
 // One more, up to the largest u64.
-fn up(n: u64) -> u64
-    ensures { λ r. ⌜ r ≡ upOf n ⌝ }
+fn one_more(n: u64) -> u64
+    ensures { λ r. ⌜ r ≡ oneMore n ⌝ }
 {
     if n < 0xFFFF_FFFF_FFFF_FFFF {
         return n + 1;
@@ -33,7 +33,7 @@ impl Tally {
     pub fn with(self, agrees: bool) -> Tally
         ensures { λ r. ⌜ r ≡ tallied self agrees ⌝ }
     {
-        let compared = up(self.compared);
+        let compared = one_more(self.compared);
         if agrees {
             return Tally {
                 compared,
@@ -42,7 +42,7 @@ impl Tally {
         }
         Tally {
             compared,
-            differ: up(self.differ),
+            differ: one_more(self.differ),
         }
     }
 

@@ -1,4 +1,4 @@
--- `plans::plan_of` meets its contract: its two tests are the choices of the definition, by cases. Assumes nothing.
+-- The two tests are the choices of the definition, by cases. Assumes nothing.
 use mathlib.Core.Path.{_≡_, refl, sym}
 use mathlib.Core.Bool.{Bool, true, false, _&&_, not, cond}
 use lib.Dec.{eqb}
@@ -40,7 +40,7 @@ returns-3 c =
     let f = d .before .before .function in
     let a = d .before .before .before .address in
     let own = d .before .before .before .before .before .args .own in
-    rw (← a .ensures, ← f .ensures, ← c .before .decode .ensures, ← c .plan-request .ensures)
+    rw (← a .ensures, ← f .ensures, ← c .before .decode-request .ensures, ← c .plan-request .ensures)
     (sym (asked (eqb (a .result) 0) (eqb (f .result) 3) (eqb (a .result) own) _ _ _ (d .before .if1 .left) (d .if2 .left)))
 
 pub plan-of-spec : {M : Type 1} → statement M

@@ -6,7 +6,7 @@ use Rattle.sensors.proofs.Setup.fresh.Tie as tie
 
 returns : tie.Need-returns
 unfolding freshSetup
-returns c = simp (← c .before .before .before .defaults .ensures, ← c .before .before .new .ensures, ← c .before .at .ensures, ← c .fresh .ensures)
+returns c = simp (← c .before .before .before .defaults .ensures, ← c .before .before .new .ensures, ← c .before .calibration .ensures, ← c .fresh .ensures)
 
 pub fresh-spec : {M : Type 1} → statement M
 fresh-spec = tie.close (tie.spec (λ c κs. search needs) (λ c κs. search needs) (λ c κs. search needs) (λ c κs. search needs) returns)

@@ -2,8 +2,8 @@
 use borrow.Author.Tests.{ne-eqb}
 use Rattle.modbus.specs.Request.{requestOf}
 use borrow.Author.Needs.{needs}
-use Rattle.modbus.proofs.decode.Statement.{statement}
-use Rattle.modbus.proofs.decode.Tie as tie
+use Rattle.modbus.proofs.decode_request.Statement.{statement}
+use Rattle.modbus.proofs.decode_request.Tie as tie
 
 returns : tie.Need-returns
 unfolding requestOf
@@ -25,8 +25,8 @@ returns-5 : tie.Need-returns-5
 unfolding requestOf
 returns-5 c = simp (← c .before .function .ensures, ne-eqb _ _ (c .match .rest .0 .0 .0 .1), ne-eqb _ _ (c .match .rest .0 .0 .1), ne-eqb _ _ (c .match .rest .0 .1), ne-eqb _ _ (c .match .rest .1))
 
-pub decode-spec : {M : Type 1} → statement M
-decode-spec =
+pub decode-request-spec : {M : Type 1} → statement M
+decode-request-spec =
     tie.close
     (tie.spec
     (λ c κs. search needs)
