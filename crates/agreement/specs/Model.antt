@@ -84,13 +84,13 @@ unfoldable pub maskedIn : Model → ℕ → Field → ℕ → ℕ → ℕ
 maskedIn b s f andMask orMask =
     maskedOf (sensorRegister s (record { setup = setupOf (b .setups) s; sample = freshSample }) (f .offset)) andMask orMask
 
-unfoldable pub stored : Model → ℕ → Setup → Model
-stored b s x = model (b .address) (set (b .setups) (s - 1) x) (b .journal)
+unfoldable pub modelWithSetup : Model → ℕ → Setup → Model
+modelWithSetup b s x = model (b .address) (set (b .setups) (s - 1) x) (b .journal)
 
 -- "A write that meets no refusal is carried out on these, and an update adds its entry at the end of the list"
 abbrev pub kept : Model → ℕ → Written → Model
 kept b s (RefusedBy code) = b
-kept b s (Stored x) = stored b s x
+kept b s (Stored x) = modelWithSetup b s x
 kept b s (Updated x e) = model (b .address) (set (b .setups) (s - 1) x) (appended (b .journal) e)
 
 -- "a frame that is .. another's or a read: nothing"

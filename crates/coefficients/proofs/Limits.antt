@@ -28,12 +28,13 @@ within-finite a m d b n e (inf true) h = h
 within-finite a m d b n e (inf false) h = h
 within-finite a m d b n e (fin sign significand exponent) h = refl
 
-zero-finite : (x : Float) → isPlusZero x ≡ true → finite x ≡ true
+-- so is a float with the bits of +0.0
+bits-finite : (x : Float) → isPlusZero x ≡ true → finite x ≡ true
 unfolding isPlusZero toBits finite
-zero-finite nan h = h
-zero-finite (inf true) h = h
-zero-finite (inf false) h = h
-zero-finite (fin sign significand exponent) h = refl
+bits-finite nan h = h
+bits-finite (inf true) h = h
+bits-finite (inf false) h = h
+bits-finite (fin sign significand exponent) h = refl
 
 -- a row whose three parts each want a finite float
 row-finite : (x y z : Float) (p q r : Bool) → (p ≡ true → finite x ≡ true) → (q ≡ true → finite y ≡ true) → (r ≡ true → finite z ≡ true)
@@ -51,10 +52,10 @@ limits-finite s c =
     let y = c .coefficient2 in
     let z = c .coefficient3 in
     by-row s _ _ _ _
-    (λ n. row-finite x y z _ _ _ (within-finite _ _ _ _ _ _ x) (within-finite _ _ _ _ _ _ y) (zero-finite z))
-    (λ n. row-finite x y z _ _ _ (within-finite _ _ _ _ _ _ x) (within-finite _ _ _ _ _ _ y) (zero-finite z))
+    (λ n. row-finite x y z _ _ _ (within-finite _ _ _ _ _ _ x) (within-finite _ _ _ _ _ _ y) (bits-finite z))
+    (λ n. row-finite x y z _ _ _ (within-finite _ _ _ _ _ _ x) (within-finite _ _ _ _ _ _ y) (bits-finite z))
     (λ n. row-finite x y z _ _ _ (within-finite _ _ _ _ _ _ x) (within-finite _ _ _ _ _ _ y) (within-finite _ _ _ _ _ _ z))
-    (λ n. row-finite x y z _ _ _ (within-finite _ _ _ _ _ _ x) (within-finite _ _ _ _ _ _ y) (zero-finite z))
+    (λ n. row-finite x y z _ _ _ (within-finite _ _ _ _ _ _ x) (within-finite _ _ _ _ _ _ y) (bits-finite z))
 
 -- only sensors 1 to 4 have limits
 pub only-sensors : (s : ℕ) (c : Coefficients) → inLimits s c ≡ true → (1 ≤ s) × (s ≤ 4)
