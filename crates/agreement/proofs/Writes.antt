@@ -3,13 +3,14 @@
 use mathlib.Core.Path.{_≡_, refl, sym, ap, _∙_}
 use mathlib.Core.Bool.{Bool, true, false, _&&_, _||_, cond}
 use mathlib.Core.List.{List, [], _∷_, _++_}
-use Prim.Native.Nat.{ℕ, _-_, _%_, _<_, _≤_}
+use Prim.Native.Nat.{ℕ, _-_, _<_, _≤_}
 use native.Mathlib.Omega.{arith}
 use lib.Dec.{eqb, ltb}
 use lib.ListN.{length, set}
 use borrow.Author.Tests.{eqb-true, eq-eqb, ne-eqb, ltb-true, ltb-false}
 use Rattle.floats.proofs.Bools.{no}
 use Rattle.coefficients.specs.declared.Calibration.{Calibration}
+use Rattle.parameters.specs.Parameters.{parameterPart}
 use Rattle.entries.specs.Entries.{replacedBy}
 use Rattle.entries.specs.declared.Entry.{Entry}
 use Rattle.fields.specs.declared.Field.{Field}
@@ -36,7 +37,7 @@ use Rattle.plans.proofs.Plans.{Located}
 use Rattle.state.specs.Sonde.{sonde, sensorAt, setupAt, withSetup, countedGood, countedException}
 use Rattle.state.specs.declared.Counters.{Counters}
 use Rattle.calls.specs.Frame.{Outcome, refusal, confirmation, spareIn, writeAt, carried, maskedWord}
-use Rattle.agreement.specs.Model.{Model, model, setupOf, hasRoom, writeIn, maskedIn, stored, kept}
+use Rattle.agreement.specs.Model.{Model, model, setupOf, hasRoom, writeIn, maskedIn, modelWithSetup, kept}
 use Rattle.agreement.specs.Runs.{State, state}
 use Rattle.agreement.specs.Accepted.{calibrated}
 use Rattle.agreement.proofs.Sondes.{setup-replaced, setup-same, setup-valid, setup-fits, counted, with-setup}
@@ -50,7 +51,7 @@ same-choice true m n m' n' f g = f refl
 same-choice false m n m' n' f g = g refl
 
 -- a register shows no measurement, unless it is a part of a parameter that does
-unmeasured : (s : ℕ) (x : Sensor) (y : Sample) (o : ℕ) → (30 ≤ o → settled ((o - 30) % 8) ≡ true)
+unmeasured : (s : ℕ) (x : Sensor) (y : Sample) (o : ℕ) → (30 ≤ o → settled (parameterPart o) ≡ true)
     → sensorRegister s x o ≡ sensorRegister s (record { setup = x .setup; sample = y }) o
 unfolding sensorRegister parameterRegister
 unmeasured s x y o w =
@@ -66,7 +67,7 @@ unmeasured s x y o w =
     (λ e. refl)))))
   where
     part : ℕ
-    part = (o - 30) % 8
+    part = parameterPart o
 
 module _ {x : State} {b : Model} (h : Invariant x b) where
   -- an entry is spare in the volume where it is in the book
@@ -132,8 +133,8 @@ module _ {x : State} {b : Model} (h : Invariant x b) where
 
       -- a value stored leaves what is in force
       store-keeps : (y : Setup) → writeOf s old f high low clock spare ≡ Stored y
-          → Answered x b (carried (x .sonde) body reply (x .volume) s (Stored y)) (stored b s y) (cond (eqb (f .offset) 5 && eqb high 0xE001) s 0)
-      unfolding stored
+          → Answered x b (carried (x .sonde) body reply (x .volume) s (Stored y)) (modelWithSetup b s y) (cond (eqb (f .offset) 5 && eqb high 0xE001) s 0)
+      unfolding modelWithSetup
       store-keeps y e =
           rw (no-update (eqb (f .offset) 5) (eqb high 0xE001) refl refl)
           (record {

@@ -8,7 +8,7 @@ use Rattle.floats.specs.Floats.{near, plusZero, finite, highWord, lowWord}
 use Rattle.coefficients.specs.Coefficients.{coefficients, defaultsOf}
 use Rattle.parameters.specs.Parameters.{idOf, defaultUnits, converted}
 use Rattle.sensors.specs.Sensors.{parameterOf, freshParameter, freshParameters, freshSetup, freshSample}
-use Rattle.sensors.specs.Changes.{parameters, withParameters, newProcedure, restarted, calibratedAt, measuredOf}
+use Rattle.sensors.specs.Changes.{withParameters, withLevel, newProcedure, restarted, calibratedAt, measuredOf}
 use Rattle.sensors.specs.declared.Setup.{Setup}
 use Rattle.sensors.specs.declared.Sensor.{Sensor}
 use Rattle.readings.specs.Readings.{calibratedOf, resistivityOf, heightOf, levelOfId, pressureOf, levelOf, conductivityValue, levelValue, valueOf, workedFrom, gradedReading, readingOf}
@@ -30,7 +30,7 @@ calibrated = calibratedAt (freshSetup 1) (coefficients (near 1 1) (near 1 2) plu
 abbrev drawdown : Setup
 drawdown =
     let s = calibratedAt (freshSetup 3) (coefficients (near 3 2) (near 100 1) (near 2 1)) 1 in
-    withParameters s (parameters 4 (s .parameters .parameter1) (s .parameters .parameter2) (s .parameters .parameter3))
+    withParameters s (withLevel (s .parameters) 4)
 
 pub record Worked : Type 0 where
   -- raw 4.0 at 25 °C: conductivity 1.0 + (0.5 × 4.0) is 3.0, resistivity 1000000 / 3.0

@@ -1,12 +1,12 @@
 -- What each register shows. Document 01, "Register map". Assumes nothing.
 use mathlib.Core.Bool.{_&&_, cond}
-use Prim.Native.Nat.{ℕ, _+_, _-_, _/_, _%_}
+use Prim.Native.Nat.{ℕ, _/_, _%_}
 use lib.Dec.{eqb, ltb}
 use Rattle.floats.specs.Floats.{highWord, lowWord}
 use Rattle.coefficients.specs.Coefficients.{coefficientsOf}
 use Rattle.coefficients.specs.declared.Coefficients.{Coefficients}
 use Rattle.methods.specs.declared.Points.{Points}
-use Rattle.parameters.specs.Parameters.{countOf, idOf, availableUnits}
+use Rattle.parameters.specs.Parameters.{countOf, parameterNumber, parameterPart, idOf, availableUnits}
 use Rattle.sensors.specs.Sensors.{parameterOf}
 use Rattle.sensors.specs.declared.Setup.{Setup}
 use Rattle.sensors.specs.declared.Sensor.{Sensor}
@@ -71,7 +71,7 @@ sensorRegister sensor s o =
     (cond (ltb o 16) (coefficientRegister (shownCoefficients (s .setup)) o)
     (cond (ltb o 24) (pointRegister (s .setup .procedure .points) o)
     (cond (ltb o 30) 0
-    (cond (ltb o 54) (parameterRegister sensor s ((o - 30) / 8 + 1) ((o - 30) % 8)) 0))))
+    (cond (ltb o 54) (parameterRegister sensor s (parameterNumber o) (parameterPart o)) 0))))
 
 -- "Device: 0 map version 3; 1 device id 1; 2..3 clock; 4, 5, 6 good, bad, exception counters; 7 capacity; 8 in use"
 unfoldable pub deviceRegister : Device → ℕ → ℕ

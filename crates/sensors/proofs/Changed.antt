@@ -13,7 +13,7 @@ use Rattle.coefficients.specs.declared.Coefficients.{Coefficients}
 use Rattle.coefficients.proofs.Bits.{CoefficientsFit}
 use Rattle.parameters.specs.Parameters.{idOf, unitsAllowed, levelAllowed}
 use Rattle.sensors.specs.Sensors.{unitsValid, levelValid, validParameter, validParameters, validProcedure, validSetup, validSensor}
-use Rattle.sensors.specs.Changes.{parameters, active, withProcedure, withActive, withParameters, restarted, calibratedAt, withParameter, sample, measuredOf, measuredSensor}
+use Rattle.sensors.specs.Changes.{active, withProcedure, withActive, withParameters, withLevel, restarted, calibratedAt, withParameter, sample, measuredOf, measuredSensor}
 use Rattle.sensors.specs.declared.Parameter.{Parameter}
 use Rattle.sensors.specs.declared.Parameters.{Parameters}
 use Rattle.sensors.specs.declared.Procedure.{Procedure}
@@ -64,7 +64,7 @@ module _ (s : ℕ) (q : Parameters) (h : validParameters s q ≡ true) where
   v = valid-parameters-parts s q h
 
   -- a listed level
-  pub with-level-valid : (level : ℕ) → levelAllowed level ≡ true → validParameters s (parameters level (q .parameter1) (q .parameter2) (q .parameter3)) ≡ true
+  pub with-level-valid : (level : ℕ) → levelAllowed level ≡ true → validParameters s (withLevel q level) ≡ true
   unfolding levelValid
   with-level-valid level l =
       valid-parameters s _

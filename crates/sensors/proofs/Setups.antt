@@ -5,10 +5,11 @@ use mathlib.Core.Bool.{Bool, true, false, _&&_, cond}
 use Prim.Native.Nat.{ℕ, zero, suc, _≤_}
 use native.Mathlib.Omega.{arith}
 use lib.Dec.{T, eqb}
-use lib.Ieee.{binary32, fits, ofBits}
+use lib.Ieee.{binary32, fits}
 use lib.Ieee.Bits.{ofBits-fits}
-use Rattle.floats.specs.Floats.{plusZero, finite}
+use Rattle.floats.specs.Floats.{finite}
 use Rattle.floats.proofs.Bools.{both}
+use Rattle.floats.proofs.Words.{plus-zero-finite}
 use Rattle.coefficients.specs.Coefficients.{allFinite, calibrationOf, coefficientsOf, defaultsOf, inLimits}
 use Rattle.coefficients.specs.declared.Coefficients.{Coefficients}
 use Rattle.coefficients.specs.declared.Calibration.{Calibration}
@@ -144,9 +145,9 @@ pub record SetupFits (x : Setup) : Type 0 where
   pub fits-parameters : ParametersFit (x .parameters)
 
 -- the sentinel of a parameter fits the format
-pub sentinel-fits : (q : Parameters) (k : ℕ) → ParametersFit q → T (fits binary32 (parameterOf q k .sentinel))
+pub parameter-fits : (q : Parameters) (k : ℕ) → ParametersFit q → T (fits binary32 (parameterOf q k .sentinel))
 unfolding parameterOf
-sentinel-fits q k v = go (eqb k 1) (eqb k 2)
+parameter-fits q k v = go (eqb k 1) (eqb k 2)
   where
     go : (a b : Bool) → T (fits binary32 ((cond a (q .parameter1) (cond b (q .parameter2) (q .parameter3))) .sentinel))
     go true b = v .fits1
@@ -154,10 +155,6 @@ sentinel-fits q k v = go (eqb k 1) (eqb k 2)
     go false false = v .fits3
 
 -- ---- a procedure that begins
-
-zero-finite : finite plusZero ≡ true
-unfolding finite ofBits
-zero-finite = refl
 
 -- the direct method is allowed on every sensor
 pub direct-allowed : (s : ℕ) → methodAllowed s 0 ≡ true
@@ -171,7 +168,7 @@ direct-allowed s = go (eqb s 3)
 -- with finite trial coefficients it is valid
 pub new-procedure-valid : (s : ℕ) (mode : Bool) (c : Coefficients) → allFinite c ≡ true → validProcedure s (newProcedure mode c) ≡ true
 unfolding newProcedure pointsFinite
-new-procedure-valid s mode c f = valid-procedure s (newProcedure mode c) (record { trial-finite = f; points-finite = rw zero-finite; method-allowed = direct-allowed s })
+new-procedure-valid s mode c f = valid-procedure s (newProcedure mode c) (record { trial-finite = f; points-finite = rw plus-zero-finite; method-allowed = direct-allowed s })
 
 -- and with those of the format of the format
 pub new-procedure-fits : (mode : Bool) (c : Coefficients) → CoefficientsFit c → ProcedureFits (newProcedure mode c)
@@ -205,9 +202,9 @@ fresh-parameters-valid s l h =
     valid-parameters s (freshParameters s)
     (record {
       level-valid = fresh-level s;
-      valid1 = valid-parameter s 1 _ zero-finite (default-units 1 (omega arith) (omega arith) s l h);
-      valid2 = valid-parameter s 2 _ zero-finite (default-units 2 (omega arith) (omega arith) s l h);
-      valid3 = valid-parameter s 3 _ zero-finite (default-units 3 (omega arith) (omega arith) s l h);
+      valid1 = valid-parameter s 1 _ plus-zero-finite (default-units 1 (omega arith) (omega arith) s l h);
+      valid2 = valid-parameter s 2 _ plus-zero-finite (default-units 2 (omega arith) (omega arith) s l h);
+      valid3 = valid-parameter s 3 _ plus-zero-finite (default-units 3 (omega arith) (omega arith) s l h);
     })
 
 fresh-parameters-fit : (s : ℕ) → ParametersFit (freshParameters s)
@@ -249,4 +246,4 @@ fresh-fits s = rw (← (fresh-powered s)) (powered-fits s (calibrationOf (defaul
 -- a fresh sensor is valid
 pub fresh-sensor-valid : (s : ℕ) → 1 ≤ s → s ≤ 4 → validSensor s (freshSensor s) ≡ true
 unfolding validSensor freshSensor
-fresh-sensor-valid s l h = rw (fresh-valid s l h, zero-finite)
+fresh-sensor-valid s l h = rw (fresh-valid s l h, plus-zero-finite)

@@ -64,6 +64,10 @@ calibratedAt s c clock = setup (withTrial (s .procedure) c) (active (calibration
 
 -- ---- parameters
 
+-- another id of the level
+abbrev pub withLevel : Parameters → ℕ → Parameters
+withLevel q level = parameters level (q .parameter1) (q .parameter2) (q .parameter3)
+
 -- parameter 1, 2 or 3 replaced
 unfoldable pub withParameter : Parameters → ℕ → Parameter → Parameters
 withParameter q k p =

@@ -10,16 +10,17 @@ use Rattle.floats.specs.Floats.{pattern, floatOf, highWord, lowWord}
 use Rattle.floats.specs.declared.FloatOf.the-variants.{Finite}
 use Rattle.floats.proofs.Bools.{no}
 use Rattle.floats.proofs.Words.{float-and-back}
+use Rattle.parameters.specs.Parameters.{parameterNumber, parameterPart}
 use Rattle.fields.specs.declared.Field.{Field}
 use Rattle.fields.specs.Fields.Found.{Row}
 use Rattle.fields.specs.Fields.{fieldAt}
 use Rattle.sensors.specs.Sensors.{parameterOf}
-use Rattle.sensors.specs.Changes.{procedure, active, parameters, withProcedure, withActive, withParameters, withParameter}
+use Rattle.sensors.specs.Changes.{procedure, active, withProcedure, withActive, withParameters, withLevel, withParameter}
 use Rattle.sensors.specs.declared.Setup.{Setup}
 use Rattle.sensors.specs.declared.Sample.{Sample}
 use Rattle.registers.specs.Registers.{shownCoefficients, coefficientRegister, pointRegister, shownId, parameterRegister, headRegister, sensorRegister}
 use Rattle.writes.proofs.Content.{contentOf, writtenValue}
-use Rattle.writes.specs.Writes.{trialAt, pointAt, sentinelAt, withFloat, writeOf}
+use Rattle.writes.specs.Writes.{trialAt, pointAt, withSentinel, withFloat, writeOf}
 use Rattle.commands.specs.declared.Written.the-variants.{Refused, Stored}
 use Rattle.writes.proofs.Outcomes.{Change, same, restart, next, method, float, level, units, sentinel, write-outcome, stored-change}
 use Rattle.writes.proofs.Rows.{oneWord, one-word, even, modal, level-offset}
@@ -30,7 +31,7 @@ pub record Takes (sensor : ℕ) (s t : Setup) (o high low : ℕ) : Type 0 where
   pub content : high < 65536 → low < 65536 → contentOf t o ≡ cond (oneWord o) high (pattern high low)
   pub others : (g : ℕ) → (g ≡ o → ⊥) → contentOf t g ≡ contentOf s g
   pub mode : t .procedure .calibrating ≡ s .procedure .calibrating
-  pub high-shown : ((o - 30) % 8 ≡ 2 → sensor ≡ 3) → (x : Sample)
+  pub high-shown : (parameterPart o ≡ 2 → sensor ≡ 3) → (x : Sample)
       → sensorRegister sensor (record { setup = t; sample = x }) o ≡ cond (oneWord o) (contentOf t o) (contentOf t o / 65536)
   pub low-shown : (x : Sample) → oneWord o ≡ false → sensorRegister sensor (record { setup = t; sample = x }) (suc o) ≡ contentOf t o % 65536
 
@@ -53,7 +54,7 @@ module _ (n : ℕ) (s : Setup) (high low : ℕ) where
       rw e (record { content = λ hh hl. refl; others = λ g n. rw (ne-eqb g 6 n); mode = refl; high-shown = λ l x. refl; low-shown = λ x e. absurd (no (sym e)) })
 
   level-takes : (o : ℕ) → o ≡ 40
-      → To (withParameters s (parameters high (s .parameters .parameter1) (s .parameters .parameter2) (s .parameters .parameter3))) o
+      → To (withParameters s (withLevel (s .parameters) high)) o
   unfolding contentOf sensorRegister parameterRegister shownId
   level-takes o e =
       rw e (record { content = λ hh hl. refl; others = λ g n. rw (ne-eqb g 40 n); mode = refl; high-shown = λ l x. rw (l refl); low-shown = λ x e. absurd (no (sym e)) })
@@ -96,7 +97,7 @@ module _ (n : ℕ) (s : Setup) (high low : ℕ) where
 
     -- part 5 of parameter k
     sentinel-takes : (k o : ℕ) → 1 ≤ k → k ≤ 3 → o ≡ 8 * k + 27 → To (withFloat s o x) o
-    unfolding contentOf withFloat sentinelAt parameterOf sensorRegister parameterRegister highWord lowWord
+    unfolding contentOf withFloat withSentinel withParameter parameterOf sensorRegister parameterRegister highWord lowWord
     sentinel-takes zero o l h e = absurd (omega arith)
     sentinel-takes (suc zero) o l h e =
         rw e (record { content = b; others = λ g n. rw (ne-eqb g 35 n); mode = refl; high-shown = λ l x. refl; low-shown = λ x e. refl })
@@ -135,7 +136,7 @@ module _ (sensor : ℕ) (s : Setup) (r : ℕ) (f : Field) (found : fieldAt r ≡
           floats-take sensor s high low x (bits high low x q) ((o - 10) / 2) o (omega arith) (omega arith) (λ h. mode-on (modal r f found writable (c .0) h))
       of (level c p l) = level-takes sensor s high low o (level-offset r f found writable p)
       of (units k c i p u) = units-take sensor s high low k o (omega arith) (omega arith) (omega arith)
-      of (sentinel x c p q) = sentinel-takes sensor s high low x (bits high low x q) ((o - 30) / 8 + 1) o (omega arith) (omega arith) (omega arith)
+      of (sentinel x c p q) = sentinel-takes sensor s high low x (bits high low x q) (parameterNumber o) o (omega arith) (omega arith) (omega arith)
 
   -- it stores the value of the field's word or of its two words
   pub write-stores : high < 65536 → low < 65536 → contentOf t (f .offset) ≡ writtenValue f high low

@@ -2,7 +2,7 @@
 -- codes of a refusal. Assumes nothing.
 use mathlib.Core.Path.{_≡_, refl, ap}
 use mathlib.Core.Bool.{Bool, true, false, _&&_, cond}
-use Prim.Native.Nat.{ℕ}
+use Prim.Native.Nat.{ℕ, _≤_}
 use native.Mathlib.Omega.{arith}
 use lib.Dec.{T, eqb, ltb}
 use lib.Ieee.{Float, binary32, fits}
@@ -16,16 +16,16 @@ use Rattle.methods.specs.declared.Points.{Points}
 use Rattle.coefficients.proofs.Bits.{CoefficientsFit}
 use Rattle.methods.proofs.Candidates.{PointsFit}
 use Rattle.entries.specs.Entries.{pointsFinite}
+use Rattle.parameters.specs.Parameters.{parameterNumber}
 use Rattle.fields.specs.declared.Field.{Field}
-use Rattle.sensors.specs.Sensors.{validParameter, validParameters, validSetup}
+use Rattle.sensors.specs.Sensors.{validParameters, validSetup}
 use Rattle.sensors.specs.Changes.{restarted}
-use Rattle.sensors.specs.declared.Parameter.{Parameter}
 use Rattle.sensors.specs.declared.Parameters.{Parameters}
 use Rattle.sensors.specs.declared.Active.{Active}
 use Rattle.sensors.specs.declared.Setup.{Setup}
-use Rattle.sensors.proofs.Setups.{ValidProcedure, ValidParameters, ParametersFit, SetupFits, valid-procedure-parts, valid-procedure, valid-parameter-parts, valid-parameter, valid-parameters-parts, valid-parameters, parameter-valid, valid-setup-parts, sentinel-fits}
+use Rattle.sensors.proofs.Setups.{ValidProcedure, ParametersFit, SetupFits, valid-procedure-parts, valid-procedure, valid-parameter-parts, valid-parameter, parameter-valid, valid-setup-parts, parameter-fits}
 use Rattle.sensors.proofs.Changed.{with-procedure-valid, with-parameters-valid, with-next-valid, restarted-valid, with-level-valid, with-parameter-valid, units-listed, with-procedure-fits, with-parameters-fits, with-next-fits, restarted-fits, with-parameter-fits}
-use Rattle.writes.specs.Writes.{trialAt, pointAt, sentinelAt, withFloat, writeOf}
+use Rattle.writes.specs.Writes.{trialAt, pointAt, withSentinel, withFloat, writeOf}
 use Rattle.commands.specs.declared.Written.{Written}
 use Rattle.commands.specs.declared.Written.the-variants.{Refused, Stored}
 use Rattle.writes.proofs.Outcomes.{Code, Change, same, restart, next, method, float, level, units, sentinel, Outcome, refused, stored, update, write-outcome, stored-change}
@@ -60,9 +60,9 @@ one-of p x a b c =
     cond a (points x (p .y1) (p .x2) (p .y2))
     (cond b (points (p .x1) x (p .x2) (p .y2)) (cond c (points (p .x1) (p .y1) x (p .y2)) (points (p .x1) (p .y1) (p .x2) x)))
 
-points-finite : (p : Points) (o : ℕ) (x : Float) → pointsFinite p ≡ true → finite x ≡ true → pointsFinite (pointAt p o x) ≡ true
+point-finite : (p : Points) (o : ℕ) (x : Float) → pointsFinite p ≡ true → finite x ≡ true → pointsFinite (pointAt p o x) ≡ true
 unfolding pointAt pointsFinite
-points-finite p o x h f =
+point-finite p o x h f =
     let v = both (finite (p .x1) && finite (p .y1) && finite (p .x2)) (finite (p .y2)) h in
     let t = both (finite (p .x1) && finite (p .y1)) (finite (p .x2)) (v .0) in
     let u = both (finite (p .x1)) (finite (p .y1)) (t .0) in
@@ -74,9 +74,9 @@ points-finite p o x h f =
     go i j k l false false true = rw (i, j, f, l)
     go i j k l false false false = rw (i, j, k, f)
 
-points-fit : (p : Points) (o : ℕ) (x : Float) → PointsFit p → T (fits binary32 x) → PointsFit (pointAt p o x)
+point-fits : (p : Points) (o : ℕ) (x : Float) → PointsFit p → T (fits binary32 x) → PointsFit (pointAt p o x)
 unfolding pointAt
-points-fit p o x t f = go (eqb o 16) (eqb o 18) (eqb o 20)
+point-fits p o x t f = go (eqb o 16) (eqb o 18) (eqb o 20)
   where
     go : (a b c : Bool) → PointsFit (one-of p x a b c)
     go true b c = record { fits-x1 = f; fits-y1 = t .fits-y1; fits-x2 = t .fits-x2; fits-y2 = t .fits-y2 }
@@ -86,39 +86,26 @@ points-fit p o x t f = go (eqb o 16) (eqb o 18) (eqb o 20)
 
 -- ---- parameters with one sentinel replaced
 
-sentinel-valid : (n : ℕ) (q : Parameters) (o : ℕ) (x : Float) → validParameters n q ≡ true → finite x ≡ true → validParameters n (sentinelAt q o x) ≡ true
-unfolding sentinelAt
-sentinel-valid n q o x h f =
-    choose (λ r. validParameters n r ≡ true) (eqb o 35) _ _ (λ e. valid-parameters n _ (record { level-valid = v .level-valid; valid1 = with 1 (q .parameter1) (v .valid1); valid2 = v .valid2; valid3 = v .valid3 }))
-    (λ e. choose (λ r. validParameters n r ≡ true) (eqb o 43) _ _
-    (λ e. valid-parameters n _ (record { level-valid = v .level-valid; valid1 = v .valid1; valid2 = with 2 (q .parameter2) (v .valid2); valid3 = v .valid3 }))
-    (λ e. valid-parameters n _ (record { level-valid = v .level-valid; valid1 = v .valid1; valid2 = v .valid2; valid3 = with 3 (q .parameter3) (v .valid3) })))
-  where
-    v : ValidParameters n q
-    v = valid-parameters-parts n q h
+sentinel-valid : (n : ℕ) (q : Parameters) (k : ℕ) (x : Float) → 1 ≤ k → k ≤ 3 → validParameters n q ≡ true → finite x ≡ true → validParameters n (withSentinel q k x) ≡ true
+unfolding withSentinel
+sentinel-valid n q k x l m h f = with-parameter-valid n q h k _ l m (valid-parameter n k _ f (valid-parameter-parts n k _ (parameter-valid n q k l m h) .1))
 
-    with : (k : ℕ) (p : Parameter) → validParameter n k p ≡ true → validParameter n k (record { units = p .units; sentinel = x }) ≡ true
-    with k p u = valid-parameter n k (record { units = p .units; sentinel = x }) f (valid-parameter-parts n k p u .1)
-
-sentinel-fit : (q : Parameters) (o : ℕ) (x : Float) → ParametersFit q → T (fits binary32 x) → ParametersFit (sentinelAt q o x)
-unfolding sentinelAt
-sentinel-fit q o x v f =
-    choose ParametersFit (eqb o 35) _ _ (λ e. record { fits1 = f; fits2 = v .fits2; fits3 = v .fits3 })
-    (λ e. choose ParametersFit (eqb o 43) _ _ (λ e. record { fits1 = v .fits1; fits2 = f; fits3 = v .fits3 })
-    (λ e. record { fits1 = v .fits1; fits2 = v .fits2; fits3 = f }))
+sentinel-fits : (q : Parameters) (k : ℕ) (x : Float) → ParametersFit q → T (fits binary32 x) → ParametersFit (withSentinel q k x)
+unfolding withSentinel
+sentinel-fits q k x v f = with-parameter-fits q v k _ f
 
 -- ---- a float stored, of whichever field
 
-float-valid : (n : ℕ) (s : Setup) (o : ℕ) (x : Float) → validSetup n s ≡ true → finite x ≡ true → validSetup n (withFloat s o x) ≡ true
+float-valid : (n : ℕ) (s : Setup) (o : ℕ) (x : Float) → o ≤ 53 → validSetup n s ≡ true → finite x ≡ true → validSetup n (withFloat s o x) ≡ true
 unfolding withFloat
-float-valid n s o x h f =
+float-valid n s o x l h f =
     choose (λ t. validSetup n t ≡ true) (ltb o 16) _ _
     (λ e. with-procedure-valid n s h _
     (valid-procedure n _ (record { trial-finite = trial-finite _ o x (p .trial-finite) f; points-finite = p .points-finite; method-allowed = p .method-allowed })))
-    (λ e. choose (λ t. validSetup n t ≡ true) (ltb o 24) _ _
+    (λ e. choose (λ t. validSetup n t ≡ true) (ltb o 30) _ _
     (λ e. with-procedure-valid n s h _
-    (valid-procedure n _ (record { trial-finite = p .trial-finite; points-finite = points-finite _ o x (p .points-finite) f; method-allowed = p .method-allowed })))
-    (λ e. with-parameters-valid n s h _ (sentinel-valid n (s .parameters) o x (valid-setup-parts n s h .parameters-valid) f)))
+    (valid-procedure n _ (record { trial-finite = p .trial-finite; points-finite = point-finite _ o x (p .points-finite) f; method-allowed = p .method-allowed })))
+    (λ e. with-parameters-valid n s h _ (sentinel-valid n (s .parameters) (parameterNumber o) x (omega arith) (omega arith) (valid-setup-parts n s h .parameters-valid) f)))
   where
     p : ValidProcedure n (s .procedure)
     p = valid-procedure-parts n (s .procedure) (valid-setup-parts n s h .procedure-valid)
@@ -128,13 +115,13 @@ unfolding withFloat
 float-fits s o x v f =
     let p = v .fits-procedure in
     choose SetupFits (ltb o 16) _ _ (λ e. with-procedure-fits s v _ (record { fits-trial = trial-fits _ o x (p .fits-trial) f; fits-points = p .fits-points }))
-    (λ e. choose SetupFits (ltb o 24) _ _ (λ e. with-procedure-fits s v _ (record { fits-trial = p .fits-trial; fits-points = points-fit _ o x (p .fits-points) f }))
-    (λ e. with-parameters-fits s v _ (sentinel-fit (s .parameters) o x (v .fits-parameters) f)))
+    (λ e. choose SetupFits (ltb o 30) _ _ (λ e. with-procedure-fits s v _ (record { fits-trial = p .fits-trial; fits-points = point-fits _ o x (p .fits-points) f }))
+    (λ e. with-parameters-fits s v _ (sentinel-fits (s .parameters) (parameterNumber o) x (v .fits-parameters) f)))
 
 -- the calibration in force stays with it
 float-active : (s : Setup) (o : ℕ) (x : Float) → withFloat s o x .active ≡ s .active
 unfolding withFloat
-float-active s o x = choose (λ (t : Setup). t .active ≡ s .active) (ltb o 16) _ _ (λ e. refl) (λ e. choose (λ (t : Setup). t .active ≡ s .active) (ltb o 24) _ _ (λ e. refl) (λ e. refl))
+float-active s o x = choose (λ (t : Setup). t .active ≡ s .active) (ltb o 16) _ _ (λ e. refl) (λ e. choose (λ (t : Setup). t .active ≡ s .active) (ltb o 30) _ _ (λ e. refl) (λ e. refl))
 
 -- ---- a value stored
 
@@ -145,14 +132,14 @@ change-valid n s o high low (next i) h = with-next-valid n s h (pattern high low
 change-valid n s o high low (method i m) h =
     let p = valid-procedure-parts n (s .procedure) (valid-setup-parts n s h .procedure-valid) in
     with-procedure-valid n s h _ (valid-procedure n _ (record { trial-finite = p .trial-finite; points-finite = p .points-finite; method-allowed = m }))
-change-valid n s o high low (float x r f) h = float-valid n s o x h (float-of-finite high low x f)
+change-valid n s o high low (float x r f) h = float-valid n s o x (omega (arith, r .1)) h (float-of-finite high low x f)
 change-valid n s o high low (level r p l) h = with-parameters-valid n s h _ (with-level-valid n (s .parameters) (valid-setup-parts n s h .parameters-valid) high l)
 change-valid n s o high low (units k r i p u) h =
     let q = valid-setup-parts n s h .parameters-valid in
     with-parameters-valid n s h _
     (with-parameter-valid n (s .parameters) q k _ (omega arith) (omega arith)
     (valid-parameter n k _ (valid-parameter-parts n k _ (parameter-valid n (s .parameters) k (omega arith) (omega arith) q) .0) (units-listed n k high u)))
-change-valid n s o high low (sentinel x r p f) h = float-valid n s o x h (float-of-finite high low x f)
+change-valid n s o high low (sentinel x r p f) h = float-valid n s o x (r .1) h (float-of-finite high low x f)
 
 change-fits : (sensor : ℕ) (s : Setup) (o high low : ℕ) {t : Setup} → Change sensor s o high low t → SetupFits s → SetupFits t
 change-fits n s o high low (same i) v = v
@@ -164,7 +151,7 @@ change-fits n s o high low (float x r f) v = float-fits s o x v (float-of-fits h
 change-fits n s o high low (level r p l) v =
     with-parameters-fits s v _ (record { fits1 = v .fits-parameters .fits1; fits2 = v .fits-parameters .fits2; fits3 = v .fits-parameters .fits3 })
 change-fits n s o high low (units k r i p u) v =
-    with-parameters-fits s v _ (with-parameter-fits (s .parameters) (v .fits-parameters) k _ (sentinel-fits (s .parameters) k (v .fits-parameters)))
+    with-parameters-fits s v _ (with-parameter-fits (s .parameters) (v .fits-parameters) k _ (parameter-fits (s .parameters) k (v .fits-parameters)))
 change-fits n s o high low (sentinel x r p f) v = float-fits s o x v (float-of-fits high low x f)
 
 -- the calibration in force stays with each value that is stored

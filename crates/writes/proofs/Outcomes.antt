@@ -1,7 +1,7 @@
 -- What a write can come to, by cases: refused by one of four codes, one value stored, or an update. Assumes nothing.
 use mathlib.Core.Path.{_≡_, refl, subst}
 use mathlib.Core.Bool.{Bool, true, false, _&&_, not}
-use Prim.Native.Nat.{ℕ, _+_, _-_, _/_, _%_, _≤_}
+use Prim.Native.Nat.{ℕ, _≤_}
 use native.Mathlib.Omega.{arith}
 use lib.Dec.{eqb, leb}
 use lib.Ieee.{Float}
@@ -15,10 +15,10 @@ use Rattle.coefficients.specs.declared.Coefficients.{Coefficients}
 use Rattle.methods.specs.declared.Verdict.{Verdict}
 use Rattle.methods.specs.declared.Verdict.the-variants.{Accepted, OutsideLimits, NotFinite as CandidateNotFinite, Undefined}
 use Rattle.entries.specs.Entries.{methodAllowed, entryOf}
-use Rattle.parameters.specs.Parameters.{idOf, unitsAllowed, levelAllowed}
+use Rattle.parameters.specs.Parameters.{parameterNumber, parameterPart, idOf, unitsAllowed, levelAllowed}
 use Rattle.fields.specs.declared.Field.{Field}
 use Rattle.sensors.specs.Sensors.{parameterOf}
-use Rattle.sensors.specs.Changes.{procedure, active, parameters, withProcedure, withActive, withParameters, restarted, calibratedAt, withParameter}
+use Rattle.sensors.specs.Changes.{procedure, active, withProcedure, withActive, withParameters, withLevel, restarted, calibratedAt, withParameter}
 use Rattle.sensors.specs.declared.Setup.{Setup}
 use Rattle.commands.specs.Commands.{methodSet, judgedUpdate, updated, commanded}
 use Rattle.writes.specs.Writes.{nextWritten, methodWritten, withFloat, floatStored, floatWritten, levelWritten, unitsWritten, parameterWritten, fieldWritten, writeOf}
@@ -40,11 +40,11 @@ pub data Change (sensor : ℕ) (s : Setup) (o high low : ℕ) : Setup → Type 0
   method : o ≡ 6 → methodAllowed sensor high ≡ true
       → Change sensor s o high low (withProcedure s (procedure (s .procedure .calibrating) (s .procedure .trial) high (s .procedure .points)))
   float : (x : Float) → (10 ≤ o) × (o ≤ 23) → floatOf high low ≡ Finite x → Change sensor s o high low (withFloat s o x)
-  level : (30 ≤ o) × (o ≤ 53) → (o - 30) % 8 ≡ 2 → levelAllowed high ≡ true
-      → Change sensor s o high low (withParameters s (parameters high (s .parameters .parameter1) (s .parameters .parameter2) (s .parameters .parameter3)))
-  units : (k : ℕ) → (30 ≤ o) × (o ≤ 53) → k ≡ (o - 30) / 8 + 1 → (o - 30) % 8 ≡ 3 → unitsAllowed (idOf sensor k) high ≡ true
+  level : (30 ≤ o) × (o ≤ 53) → parameterPart o ≡ 2 → levelAllowed high ≡ true
+      → Change sensor s o high low (withParameters s (withLevel (s .parameters) high))
+  units : (k : ℕ) → (30 ≤ o) × (o ≤ 53) → k ≡ parameterNumber o → parameterPart o ≡ 3 → unitsAllowed (idOf sensor k) high ≡ true
       → Change sensor s o high low (withParameters s (withParameter (s .parameters) k (record { units = high; sentinel = parameterOf (s .parameters) k .sentinel })))
-  sentinel : (x : Float) → (30 ≤ o) × (o ≤ 53) → (o - 30) % 8 ≡ 5 → floatOf high low ≡ Finite x → Change sensor s o high low (withFloat s o x)
+  sentinel : (x : Float) → (30 ≤ o) × (o ≤ 53) → parameterPart o ≡ 5 → floatOf high low ≡ Finite x → Change sensor s o high low (withFloat s o x)
 
 -- what a write comes to
 pub data Outcome (sensor : ℕ) (s : Setup) (o high low clock : ℕ) (spare : Bool) : Written → Type 0 where
@@ -83,11 +83,11 @@ module _ (sensor : ℕ) (s : Setup) (o high low clock : ℕ) (spare : Bool) wher
   parameter-outcome : (30 ≤ o) × (o ≤ 53) → P (parameterWritten sensor s o high low)
   unfolding parameterWritten levelWritten unitsWritten
   parameter-outcome r =
-      choose P (eqb ((o - 30) % 8) 2) _ _
-      (λ e. choose P (levelAllowed high) _ _ (λ l. stored (level r (eqb-true ((o - 30) % 8) 2 e) l)) (λ l. refused not-listed))
-      (λ e. choose P (eqb ((o - 30) % 8) 3) _ _
-      (λ e. choose P (unitsAllowed (idOf sensor ((o - 30) / 8 + 1)) high) _ _ (λ l. stored (units _ r refl (eqb-true ((o - 30) % 8) 3 e) l)) (λ l. refused not-listed))
-      (λ e. choose P (eqb ((o - 30) % 8) 5) _ _ (λ e. float-outcome (λ x f. sentinel x r (eqb-true ((o - 30) % 8) 5 e) f))
+      choose P (eqb (parameterPart o) 2) _ _
+      (λ e. choose P (levelAllowed high) _ _ (λ l. stored (level r (eqb-true (parameterPart o) 2 e) l)) (λ l. refused not-listed))
+      (λ e. choose P (eqb (parameterPart o) 3) _ _
+      (λ e. choose P (unitsAllowed (idOf sensor (parameterNumber o)) high) _ _ (λ l. stored (units _ r refl (eqb-true (parameterPart o) 3 e) l)) (λ l. refused not-listed))
+      (λ e. choose P (eqb (parameterPart o) 5) _ _ (λ e. float-outcome (λ x f. sentinel x r (eqb-true (parameterPart o) 5 e) f))
       (λ e. refused not-listed)))
 
   field-outcome : P (fieldWritten sensor s o high low clock spare)

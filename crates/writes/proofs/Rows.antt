@@ -2,10 +2,11 @@
 -- Assumes nothing.
 use mathlib.Core.Path.{_≡_, refl}
 use mathlib.Core.Bool.{Bool, true, _&&_, _||_, not, cond, Bool·beq}
-use Prim.Native.Nat.{ℕ, _-_, _/_, _%_, _≤_}
+use Prim.Native.Nat.{ℕ, _/_, _%_, _≤_}
 use lib.Dec.{eqb, leb, ltb}
 use borrow.Author.Tests.{eqb-true, eq-eqb, ne-eqb, le-leb}
 use Rattle.floats.proofs.Bools.{beq-true}
+use Rattle.parameters.specs.Parameters.{parameterPart}
 use Rattle.fields.specs.declared.Field.{Field}
 use Rattle.fields.specs.Fields.Found.{Row}
 use Rattle.fields.specs.Fields.{fields, ownerBit, owns, fieldAt}
@@ -14,7 +15,7 @@ use Rattle.fields.proofs.Registers.{owner-below, found-test, found-covered}
 
 -- the fields of one word: the command, the method, and of a parameter the id and the units, parts 2 and 3
 abbrev pub oneWord : ℕ → Bool
-oneWord o = cond (ltb o 30) (eqb o 5 || eqb o 6) (leb ((o - 30) % 8) 3)
+oneWord o = cond (ltb o 30) (eqb o 5 || eqb o 6) (leb (parameterPart o) 3)
 
 -- the parts of a parameter that show no measurement
 abbrev pub settled : ℕ → Bool
@@ -45,17 +46,17 @@ module _ (r : ℕ) (f : Field) (found : fieldAt r ≡ Row f) (writable : f .acce
   modal l h = eqb-true (f .access) 2 (rule (λ g. leb 10 (g .offset) && leb (g .offset) 15) (λ g. eqb (g .access) 2) refl (rw (le-leb 10 o l, le-leb o 15 h)))
 
   -- the id that can be written is parameter 2's
-  pub level-offset : (o - 30) % 8 ≡ 2 → o ≡ 40
-  level-offset p = eqb-true o 40 (rule (λ g. eqb ((g .offset - 30) % 8) 2) (λ g. eqb (g .offset) 40) refl (eq-eqb ((o - 30) % 8) 2 p))
+  pub level-offset : parameterPart o ≡ 2 → o ≡ 40
+  level-offset p = eqb-true o 40 (rule (λ g. eqb (parameterPart (g .offset)) 2) (λ g. eqb (g .offset) 40) refl (eq-eqb (parameterPart o) 2 p))
 
   -- and sensor 3's
-  pub level-sensor : (o - 30) % 8 ≡ 2 → r / 100 ≡ 3
+  pub level-sensor : parameterPart o ≡ 2 → r / 100 ≡ 3
   unfolding owns ownerBit
   level-sensor p =
       let own = found-covered r f found .owned in
-      let only = rule (λ g. eqb ((g .offset - 30) % 8) 2) (λ g. below (λ k. not (owns g k) || eqb k 3) 5) refl (eq-eqb ((o - 30) % 8) 2 p) in
+      let only = rule (λ g. eqb (parameterPart (g .offset)) 2) (λ g. below (λ k. not (owns g k) || eqb k 3) 5) refl (eq-eqb (parameterPart o) 2 p) in
       eqb-true (r / 100) 3 (given (owns f (r / 100)) (eqb (r / 100) 3) (at-number (λ k. not (owns f k) || eqb k 3) 5 only (r / 100) (owner-below f (r / 100) own)) own)
 
   -- of a parameter no part that shows a measurement can be written
-  pub written-part : 30 ≤ o → settled ((o - 30) % 8) ≡ true
-  written-part l = rule (λ g. leb 30 (g .offset)) (λ g. settled ((g .offset - 30) % 8)) refl (le-leb 30 o l)
+  pub written-part : 30 ≤ o → settled (parameterPart o) ≡ true
+  written-part l = rule (λ g. leb 30 (g .offset)) (λ g. settled (parameterPart (g .offset))) refl (le-leb 30 o l)

@@ -2,7 +2,7 @@
 -- Document 01, "Calibration", "Register map" and the codes of "What is sent back": 0x92, 0x84, 0x97, 0xC0 in that order; 0xC2 comes before
 -- them, at `targetIn` of plans. Assumes nothing.
 use mathlib.Core.Bool.{Bool, _&&_, not, cond}
-use Prim.Native.Nat.{ℕ, _+_, _-_, _/_, _%_}
+use Prim.Native.Nat.{ℕ}
 use lib.Dec.{eqb, leb, ltb}
 use lib.Ieee.{Float}
 use Rattle.floats.specs.Floats.{pattern, floatOf, codeOf}
@@ -13,11 +13,10 @@ use Rattle.coefficients.specs.declared.Coefficients.{Coefficients}
 use Rattle.methods.specs.Methods.{points}
 use Rattle.methods.specs.declared.Points.{Points}
 use Rattle.entries.specs.Entries.{methodAllowed}
-use Rattle.parameters.specs.Parameters.{idOf, unitsAllowed, levelAllowed}
+use Rattle.parameters.specs.Parameters.{parameterNumber, parameterPart, idOf, unitsAllowed, levelAllowed}
 use Rattle.fields.specs.declared.Field.{Field}
 use Rattle.sensors.specs.Sensors.{parameterOf}
-use Rattle.sensors.specs.Changes.{procedure, active, parameters, withProcedure, withActive, withParameters, withTrial, withPoints, withParameter}
-use Rattle.sensors.specs.declared.Parameter.{Parameter}
+use Rattle.sensors.specs.Changes.{procedure, active, withProcedure, withActive, withParameters, withTrial, withPoints, withLevel, withParameter}
 use Rattle.sensors.specs.declared.Parameters.{Parameters}
 use Rattle.sensors.specs.declared.Setup.{Setup}
 use Rattle.commands.specs.Commands.{commanded}
@@ -52,22 +51,16 @@ pointAt p offset x =
     (cond (eqb offset 18) (points (p .x1) x (p .x2) (p .y2))
     (cond (eqb offset 20) (points (p .x1) (p .y1) x (p .y2)) (points (p .x1) (p .y1) (p .x2) x)))
 
-abbrev withSentinel : Parameter → Float → Parameter
-withSentinel p x = record { units = p .units; sentinel = x }
+-- "+5 sentinel (W, default 0.0)", of parameter k
+unfoldable pub withSentinel : Parameters → ℕ → Float → Parameters
+withSentinel q k x = withParameter q k (record { units = parameterOf q k .units; sentinel = x })
 
--- "Parameter k begins at 30 + 8 × (k - 1): .. +5 sentinel (W, default 0.0)"
-unfoldable pub sentinelAt : Parameters → ℕ → Float → Parameters
-sentinelAt q offset x =
-    cond (eqb offset 35) (parameters (q .level) (withSentinel (q .parameter1) x) (q .parameter2) (q .parameter3))
-    (cond (eqb offset 43) (parameters (q .level) (q .parameter1) (withSentinel (q .parameter2) x) (q .parameter3))
-    (parameters (q .level) (q .parameter1) (q .parameter2) (withSentinel (q .parameter3) x)))
-
--- the setup with the float at an offset replaced
+-- the setup with the float at an offset replaced: figures from 10 on, points from 16 on, and from 30 on the sentinels of the parameters
 unfoldable pub withFloat : Setup → ℕ → Float → Setup
 withFloat s offset x =
     cond (ltb offset 16) (withProcedure s (withTrial (s .procedure) (trialAt (s .procedure .trial) offset x)))
-    (cond (ltb offset 24) (withProcedure s (withPoints (s .procedure) (pointAt (s .procedure .points) offset x)))
-    (withParameters s (sentinelAt (s .parameters) offset x)))
+    (cond (ltb offset 30) (withProcedure s (withPoints (s .procedure) (pointAt (s .procedure .points) offset x)))
+    (withParameters s (withSentinel (s .parameters) (parameterNumber offset) x)))
 
 -- "float not finite": the code of what two words hold, 0x84
 abbrev pub floatStored : Setup → ℕ → FloatOf → Written
@@ -83,7 +76,7 @@ floatWritten s offset high low = floatStored s offset (floatOf high low)
 unfoldable pub levelWritten : Setup → ℕ → Written
 levelWritten s value =
     cond (levelAllowed value)
-    (Stored (withParameters s (parameters value (s .parameters .parameter1) (s .parameters .parameter2) (s .parameters .parameter3))))
+    (Stored (withParameters s (withLevel (s .parameters) value)))
     (Refused 0x84)
 
 -- "+3 units (W)": one of the units that the table lists for this parameter
@@ -97,9 +90,9 @@ unitsWritten sensor s k value =
 -- "value not listed", makes it total
 unfoldable pub parameterWritten : ℕ → Setup → ℕ → ℕ → ℕ → Written
 parameterWritten sensor s o high low =
-    cond (eqb ((o - 30) % 8) 2) (levelWritten s high)
-    (cond (eqb ((o - 30) % 8) 3) (unitsWritten sensor s ((o - 30) / 8 + 1) high)
-    (cond (eqb ((o - 30) % 8) 5) (floatWritten s o high low) (Refused 0x84)))
+    cond (eqb (parameterPart o) 2) (levelWritten s high)
+    (cond (eqb (parameterPart o) 3) (unitsWritten sensor s (parameterNumber o) high)
+    (cond (eqb (parameterPart o) 5) (floatWritten s o high low) (Refused 0x84)))
 
 -- ---- the write
 

@@ -1,7 +1,7 @@
 // What a write of one whole field does to a sensor's setup.
 ghost use mathlib.Core.Path.{_≡_};
 ghost use Prim.Native.Nat.{_≤_};
-ghost use Rattle.writes.specs.Writes.{nextWritten, methodWritten, trialAt, pointAt, sentinelAt, withFloat, floatWritten, levelWritten, unitsWritten, parameterWritten, fieldWritten, writeOf};
+ghost use Rattle.writes.specs.Writes.{nextWritten, methodWritten, trialAt, pointAt, withSentinel, withFloat, floatWritten, levelWritten, unitsWritten, parameterWritten, fieldWritten, writeOf};
 use coefficients::Coefficients;
 use commands::Written;
 use commands::command;
@@ -58,16 +58,13 @@ fn point_at(mut p: Points, offset: u16, x: f32) -> Points
     p
 }
 
-// The parameters with the sentinel at this offset replaced.
-fn sentinel_at(mut q: Parameters, offset: u16, x: f32) -> Parameters
-    ensures { λ r. ⌜ r ≡ sentinelAt q offset x ⌝ }
+// The parameters with the sentinel of parameter k replaced.
+fn with_sentinel(q: Parameters, k: u16, x: f32) -> Parameters
+    ensures { λ r. ⌜ r ≡ withSentinel q k x ⌝ }
 {
-    match offset {
-        35 => q.parameter1.sentinel = x,
-        43 => q.parameter2.sentinel = x,
-        _ => q.parameter3.sentinel = x,
-    }
-    q
+    let mut p = q.parameter(k);
+    p.sentinel = x;
+    q.with_parameter(k, p)
 }
 
 // The setup with the float at this offset replaced: a trial coefficient, a value of the points, or a sentinel.
@@ -81,13 +78,13 @@ fn with_float(mut s: Setup, offset: u16, x: f32) -> Setup
         s.procedure = p;
         return s;
     }
-    if offset < 24 {
+    if offset < 30 {
         let points = point_at(p.points, offset, x);
         p.points = points;
         s.procedure = p;
         return s;
     }
-    let q = sentinel_at(s.parameters, offset, x);
+    let q = with_sentinel(s.parameters, (offset - 30) / 8 + 1, x);
     s.parameters = q;
     s
 }
