@@ -22,7 +22,7 @@ use Rattle.registers.specs.Registers.{shownCoefficients, coefficientRegister, p
 use Rattle.writes.proofs.Content.{contentOf, writtenValue}
 use Rattle.writes.specs.Writes.{trialAt, pointAt, withSentinel, withFloat, writeOf}
 use Rattle.commands.specs.declared.Written.the-variants.{Refused, Stored}
-use Rattle.writes.proofs.Outcomes.{Change, same, restart, next, method, float, level, units, sentinel, write-outcome, stored-change}
+use Rattle.writes.proofs.Outcomes.{in-procedure, in-parameter, Change, same, restart, next, method, float, level, units, write-outcome, stored-change}
 use Rattle.writes.proofs.Rows.{oneWord, one-word, even, modal, level-offset}
 
 -- from s to t the field at o takes the value of its words, the others stay, and so does the mode; a read of the field shows what it holds,
@@ -131,12 +131,12 @@ module _ (sensor : ℕ) (s : Setup) (r : ℕ) (f : Field) (found : fieldAt r ≡
       of (restart mode i) = absurd (value i)
       of (next i) = next-takes sensor s high low o i
       of (method i m) = method-takes sensor s high low o i
-      of (float x c q) =
+      of (float x (in-procedure c) q) =
           let v : o % 2 ≡ 0 = even r f found writable (c .0) (c .1) in
           floats-take sensor s high low x (bits high low x q) ((o - 10) / 2) o (omega arith) (omega arith) (λ h. mode-on (modal r f found writable (c .0) h))
+      of (float x (in-parameter c p) q) = sentinel-takes sensor s high low x (bits high low x q) (parameterNumber o) o (omega arith) (omega arith) (omega arith)
       of (level c p l) = level-takes sensor s high low o (level-offset r f found writable p)
       of (units k c i p u) = units-take sensor s high low k o (omega arith) (omega arith) (omega arith)
-      of (sentinel x c p q) = sentinel-takes sensor s high low x (bits high low x q) (parameterNumber o) o (omega arith) (omega arith) (omega arith)
 
   -- it stores the value of the field's word or of its two words
   pub write-stores : high < 65536 → low < 65536 → contentOf t (f .offset) ≡ writtenValue f high low

@@ -28,7 +28,7 @@ use Rattle.sensors.proofs.Changed.{with-procedure-valid, with-parameters-valid,
 use Rattle.writes.specs.Writes.{trialAt, pointAt, withSentinel, withFloat, writeOf}
 use Rattle.commands.specs.declared.Written.{Written}
 use Rattle.commands.specs.declared.Written.the-variants.{Refused, Stored}
-use Rattle.writes.proofs.Outcomes.{Code, Change, same, restart, next, method, float, level, units, sentinel, Outcome, refused, stored, update, write-outcome, stored-change}
+use Rattle.writes.proofs.Outcomes.{Code, float-below, Change, same, restart, next, method, float, level, units, Outcome, refused, stored, update, write-outcome, stored-change}
 
 -- ---- coefficients and points with one value replaced
 
@@ -132,14 +132,13 @@ change-valid n s o high low (next i) h = with-next-valid n s h (pattern high low
 change-valid n s o high low (method i m) h =
     let p = valid-procedure-parts n (s .procedure) (valid-setup-parts n s h .procedure-valid) in
     with-procedure-valid n s h _ (valid-procedure n _ (record { trial-finite = p .trial-finite; points-finite = p .points-finite; method-allowed = m }))
-change-valid n s o high low (float x r f) h = float-valid n s o x (omega (arith, r .1)) h (float-of-finite high low x f)
+change-valid n s o high low (float x a f) h = float-valid n s o x (float-below a) h (float-of-finite high low x f)
 change-valid n s o high low (level r p l) h = with-parameters-valid n s h _ (with-level-valid n (s .parameters) (valid-setup-parts n s h .parameters-valid) high l)
 change-valid n s o high low (units k r i p u) h =
     let q = valid-setup-parts n s h .parameters-valid in
     with-parameters-valid n s h _
     (with-parameter-valid n (s .parameters) q k _ (omega arith) (omega arith)
     (valid-parameter n k _ (valid-parameter-parts n k _ (parameter-valid n (s .parameters) k (omega arith) (omega arith) q) .0) (units-listed n k high u)))
-change-valid n s o high low (sentinel x r p f) h = float-valid n s o x (r .1) h (float-of-finite high low x f)
 
 change-fits : (sensor : ℕ) (s : Setup) (o high low : ℕ) {t : Setup} → Change sensor s o high low t → SetupFits s → SetupFits t
 change-fits n s o high low (same i) v = v
@@ -147,12 +146,11 @@ change-fits n s o high low (restart mode i) v = restarted-fits s v mode
 change-fits n s o high low (next i) v = with-next-fits s v (pattern high low)
 change-fits n s o high low (method i m) v =
     with-procedure-fits s v _ (record { fits-trial = v .fits-procedure .fits-trial; fits-points = v .fits-procedure .fits-points })
-change-fits n s o high low (float x r f) v = float-fits s o x v (float-of-fits high low x f)
+change-fits n s o high low (float x a f) v = float-fits s o x v (float-of-fits high low x f)
 change-fits n s o high low (level r p l) v =
     with-parameters-fits s v _ (record { fits1 = v .fits-parameters .fits1; fits2 = v .fits-parameters .fits2; fits3 = v .fits-parameters .fits3 })
 change-fits n s o high low (units k r i p u) v =
     with-parameters-fits s v _ (with-parameter-fits (s .parameters) (v .fits-parameters) k _ (parameter-fits (s .parameters) k (v .fits-parameters)))
-change-fits n s o high low (sentinel x r p f) v = float-fits s o x v (float-of-fits high low x f)
 
 -- the calibration in force stays with each value that is stored
 change-active : (sensor : ℕ) (s : Setup) (o high low : ℕ) {t : Setup} → Change sensor s o high low t → t .active .calibration ≡ s .active .calibration
@@ -161,10 +159,9 @@ change-active n s o high low (same i) = refl
 change-active n s o high low (restart mode i) = refl
 change-active n s o high low (next i) = refl
 change-active n s o high low (method i m) = refl
-change-active n s o high low (float x r f) = ap (λ (a : Active). a .calibration) (float-active s o x)
+change-active n s o high low (float x a f) = ap (λ (a : Active). a .calibration) (float-active s o x)
 change-active n s o high low (level r p l) = refl
 change-active n s o high low (units k r i p u) = refl
-change-active n s o high low (sentinel x r p f) = ap (λ (a : Active). a .calibration) (float-active s o x)
 
 -- ---- the laws of a write
 

@@ -32,6 +32,15 @@ pub data Code : ℕ → Type 0 where
   not-accepted : Code 0x97
   journal-full : Code 0xC0
 
+-- the fields that hold a float: coefficients and points, and the sentinels, part 5 of each parameter
+pub data FloatAt (o : ℕ) : Type 0 where
+  in-procedure : (10 ≤ o) × (o ≤ 23) → FloatAt o
+  in-parameter : (30 ≤ o) × (o ≤ 53) → parameterPart o ≡ 5 → FloatAt o
+
+pub float-below : {o : ℕ} → FloatAt o → o ≤ 53
+float-below (in-procedure r) = omega (arith, r .1)
+float-below (in-parameter r p) = r .1
+
 -- a setup with the value of the field at offset o stored, and what was asked of the value
 pub data Change (sensor : ℕ) (s : Setup) (o high low : ℕ) : Setup → Type 0 where
   same : o ≡ 5 → Change sensor s o high low s
@@ -39,12 +48,11 @@ pub data Change (sensor : ℕ) (s : Setup) (o high low : ℕ) : Setup → Type 0
   next : o ≡ 3 → Change sensor s o high low (withActive s (active (s .active .calibration) (pattern high low)))
   method : o ≡ 6 → methodAllowed sensor high ≡ true
       → Change sensor s o high low (withProcedure s (procedure (s .procedure .calibrating) (s .procedure .trial) high (s .procedure .points)))
-  float : (x : Float) → (10 ≤ o) × (o ≤ 23) → floatOf high low ≡ Finite x → Change sensor s o high low (withFloat s o x)
+  float : (x : Float) → FloatAt o → floatOf high low ≡ Finite x → Change sensor s o high low (withFloat s o x)
   level : (30 ≤ o) × (o ≤ 53) → parameterPart o ≡ 2 → levelAllowed high ≡ true
       → Change sensor s o high low (withParameters s (withLevel (s .parameters) high))
   units : (k : ℕ) → (30 ≤ o) × (o ≤ 53) → k ≡ parameterNumber o → parameterPart o ≡ 3 → unitsAllowed (idOf sensor k) high ≡ true
       → Change sensor s o high low (withParameters s (withParameter (s .parameters) k (record { units = high; sentinel = parameterOf (s .parameters) k .sentinel })))
-  sentinel : (x : Float) → (30 ≤ o) × (o ≤ 53) → parameterPart o ≡ 5 → floatOf high low ≡ Finite x → Change sensor s o high low (withFloat s o x)
 
 -- what a write comes to
 pub data Outcome (sensor : ℕ) (s : Setup) (o high low clock : ℕ) (spare : Bool) : Written → Type 0 where
@@ -72,12 +80,12 @@ module _ (sensor : ℕ) (s : Setup) (o high low clock : ℕ) (spare : Bool) wher
       (λ e. choose P (eqb high 0xE002) _ _ (λ e. choose P (s .procedure .calibrating) _ _ (λ m. stored (restart false i)) (λ m. stored (same i)))
       (λ e. refused not-listed)))
 
-  float-outcome : ((x : Float) → floatOf high low ≡ Finite x → Change sensor s o high low (withFloat s o x)) → P (floatWritten s o high low)
+  float-outcome : FloatAt o → P (floatWritten s o high low)
   unfolding floatWritten
-  float-outcome f = go (floatOf high low) refl
+  float-outcome a = go (floatOf high low) refl
     where
       go : (r : FloatOf) → floatOf high low ≡ r → P (floatStored s o r)
-      go (Finite x) e = stored (f x e)
+      go (Finite x) e = stored (float x a e)
       go NotFinite e = refused not-listed
 
   parameter-outcome : (30 ≤ o) × (o ≤ 53) → P (parameterWritten sensor s o high low)
@@ -87,7 +95,7 @@ module _ (sensor : ℕ) (s : Setup) (o high low clock : ℕ) (spare : Bool) wher
       (λ e. choose P (levelAllowed high) _ _ (λ l. stored (level r (eqb-true (parameterPart o) 2 e) l)) (λ l. refused not-listed))
       (λ e. choose P (eqb (parameterPart o) 3) _ _
       (λ e. choose P (unitsAllowed (idOf sensor (parameterNumber o)) high) _ _ (λ l. stored (units _ r refl (eqb-true (parameterPart o) 3 e) l)) (λ l. refused not-listed))
-      (λ e. choose P (eqb (parameterPart o) 5) _ _ (λ e. float-outcome (λ x f. sentinel x r (eqb-true (parameterPart o) 5 e) f))
+      (λ e. choose P (eqb (parameterPart o) 5) _ _ (λ e. float-outcome (in-parameter r (eqb-true (parameterPart o) 5 e)))
       (λ e. refused not-listed)))
 
   field-outcome : P (fieldWritten sensor s o high low clock spare)
@@ -97,7 +105,7 @@ module _ (sensor : ℕ) (s : Setup) (o high low clock : ℕ) (spare : Bool) wher
       (λ e. choose P (eqb o 5) _ _ (λ e. command-outcome (eqb-true o 5 e))
       (λ e. choose P (eqb o 6) _ _
       (λ e. choose P (methodAllowed sensor high) _ _ (λ m. stored (method (eqb-true o 6 e) m)) (λ m. refused not-listed))
-      (λ e. choose P (leb 10 o && leb o 23) _ _ (λ e. float-outcome (λ x f. float x (between 10 23 e) f))
+      (λ e. choose P (leb 10 o && leb o 23) _ _ (λ e. float-outcome (in-procedure (between 10 23 e)))
       (λ e. choose P (leb 30 o && leb o 53) _ _ (λ e. parameter-outcome (between 30 53 e))
       (λ e. refused not-listed)))))
     where
