@@ -7,12 +7,10 @@ use Rattle.plans.specs.declared.Target.the-variants.{Unfit}
 pub record Worked : Type 0 where
   -- read-only: the device's clock
   pub clock-read-only : targetOf 2 2 ≡ Unfit 0xC2
-  -- no whole field: half of the clock
-  pub half-a-field : targetOf 2 1 ≡ Unfit 0x80
   -- absent before no whole field: half of a field and a register that sensor 3 lacks
   pub half-and-absent : targetOf 315 2 ≡ Unfit 2
 
 -- by computation
 pub worked : Worked
 unfolding targetOf spanOf wholeField exactly fieldAt holds owns ownerBit
-worked = record { clock-read-only = refl; half-a-field = refl; half-and-absent = refl }
+worked = record { clock-read-only = refl; half-and-absent = refl }

@@ -1,4 +1,4 @@
--- Readings worked out by computation: in and out of mode, a parameter worked from another, and a level. Assumes nothing.
+-- Readings worked out by computation: a parameter worked from another, and a level. Assumes nothing.
 use mathlib.Core.Path.{_≡_, refl}
 use mathlib.Core.Bool.{true}
 use mathlib.Core.List.{List, [], _∷_}
@@ -8,7 +8,7 @@ use Rattle.floats.specs.Floats.{near, plusZero, finite, highWord, lowWord}
 use Rattle.coefficients.specs.Coefficients.{coefficients, defaultsOf}
 use Rattle.parameters.specs.Parameters.{idOf, defaultUnits, converted}
 use Rattle.sensors.specs.Sensors.{parameterOf, freshParameter, freshParameters, freshSetup, freshSample}
-use Rattle.sensors.specs.Changes.{withParameters, withLevel, newProcedure, restarted, calibratedAt, measuredOf}
+use Rattle.sensors.specs.Changes.{withParameters, withLevel, newProcedure, calibratedAt, measuredOf}
 use Rattle.sensors.specs.declared.Setup.{Setup}
 use Rattle.sensors.specs.declared.Sensor.{Sensor}
 use Rattle.readings.specs.Readings.{calibratedOf, resistivityOf, heightOf, levelOfId, pressureOf, levelOf, conductivityValue, levelValue, valueOf, workedFrom, gradedReading, readingOf}
@@ -35,8 +35,6 @@ drawdown =
 pub record Worked : Type 0 where
   -- raw 4.0 at 25 °C: conductivity 1.0 + (0.5 × 4.0) is 3.0, resistivity 1000000 / 3.0
   pub resistivity : registers 1 (measured 1 calibrated (near 4 1) (near 25 1)) 46 5 ≡ 0x48A2 ∷ 0xC2AB ∷ 11 ∷ 81 ∷ 0 ∷ []
-  -- in mode the raw, quality 6
-  pub in-mode : registers 1 (measured 1 (restarted calibrated true) (near 4 1) (near 25 1)) 38 5 ≡ 0x4080 ∷ 0 ∷ 9 ∷ 65 ∷ 6 ∷ []
   -- a conductivity that isn't finite: quality 3 and the sentinel for the resistivity worked from it, though 1000000 / infinity is 0
   pub overflow : registers 1 (measured 1 (calibratedAt (freshSetup 1) (coefficients plusZero (near 4 1) plusZero) 1) (near 340000000000000000000000000000000000000 1) plusZero) 46 5
       ≡ 0 ∷ 0 ∷ 11 ∷ 81 ∷ 3 ∷ []
@@ -45,5 +43,5 @@ pub record Worked : Type 0 where
 
 -- by computation
 pub worked : Worked
-unfolding sensorRegister headRegister modeOf shownId parameterRegister readingRegister readingOf gradedReading workedFrom valueOf conductivityValue levelValue calibratedOf resistivityOf heightOf levelOfId pressureOf levelOf parameterOf freshParameter freshParameters freshSetup newProcedure restarted calibratedAt measuredOf idOf defaultUnits converted defaultsOf near round ofBits toBits finite highWord lowWord add sub mul div le eq
-worked = record { resistivity = refl; in-mode = refl; overflow = refl; level = refl }
+unfolding sensorRegister headRegister modeOf shownId parameterRegister readingRegister readingOf gradedReading workedFrom valueOf conductivityValue levelValue calibratedOf resistivityOf heightOf levelOfId pressureOf levelOf parameterOf freshParameter freshParameters freshSetup newProcedure calibratedAt measuredOf idOf defaultUnits converted defaultsOf near round ofBits toBits finite highWord lowWord add sub mul div le eq
+worked = record { resistivity = refl; overflow = refl; level = refl }

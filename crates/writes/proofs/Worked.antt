@@ -55,7 +55,6 @@ abbrev onePoint : Setup
 onePoint = next (next (next (next (next (freshSetup 1) 105 0xE000) 106 1) 120 0x4000) 116 0x4100) 118 0x4120
 
 pub record Worked : Type 0 where
-  pub two-points : told (write twoPoints 205 0xE001 0 true) ≡ 0 ∷ 2 ∷ 2 ∷ 70000 ∷ 0 ∷ 0x3F900000 ∷ 0 ∷ 0x41000000 ∷ 0x41100000 ∷ 0 ∷ 0 ∷ []
   -- points that the method doesn't use are +0.0 in the entry
   pub one-point : told (write onePoint 105 0xE001 0 true) ≡ 0 ∷ 1 ∷ 1 ∷ 70000 ∷ 0 ∷ 0x3FA00000 ∷ 0 ∷ 0x41000000 ∷ 0x41200000 ∷ 0 ∷ 0 ∷ []
   -- a bad candidate goes before a full journal: y1 10 gives 1.25, 0x97
@@ -66,4 +65,4 @@ pub record Worked : Type 0 where
 -- by computation
 pub worked : Worked
 unfolding writeOf fieldWritten floatWritten withFloat pointAt trialAt methodWritten commanded updated fieldAt holds owns ownerBit restarted calibratedAt newProcedure freshParameter freshParameters freshSetup methodAllowed idOf defaultUnits methodOf candidateOf verdictOf judgedOf allFinite inLimits defaultsOf near nearMinus finite floatOf isPlusZero sub mul div round ofBits toBits le eq
-worked = record { two-points = refl; one-point = refl; full-and-bad = refl; method-mode-off = refl }
+worked = record { one-point = refl; full-and-bad = refl; method-mode-off = refl }
