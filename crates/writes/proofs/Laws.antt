@@ -37,28 +37,17 @@ unfolding trialAt allFinite
 trial-finite c o x h f =
     let t = both (finite (c .coefficient1) && finite (c .coefficient2)) (finite (c .coefficient3)) h in
     let u = both (finite (c .coefficient1)) (finite (c .coefficient2)) (t .0) in
-    go (u .0) (u .1) (t .1) (eqb o 10) (eqb o 12)
+    choose P (eqb o 10) _ _ (λ e. rw (f, u .1, t .1)) (λ e. choose P (eqb o 12) _ _ (λ e. rw (u .0, f, t .1)) (λ e. rw (u .0, u .1, f)))
   where
-    go : finite (c .coefficient1) ≡ true → finite (c .coefficient2) ≡ true → finite (c .coefficient3) ≡ true → (a b : Bool)
-        → allFinite (cond a (coefficients x (c .coefficient2) (c .coefficient3)) (cond b (coefficients (c .coefficient1) x (c .coefficient3)) (coefficients (c .coefficient1) (c .coefficient2) x))) ≡ true
-    go p q r true b = rw (f, q, r)
-    go p q r false true = rw (p, f, r)
-    go p q r false false = rw (p, q, f)
+    P : Coefficients → Type 0
+    P d = allFinite d ≡ true
 
 trial-fits : (c : Coefficients) (o : ℕ) (x : Float) → CoefficientsFit c → T (fits binary32 x) → CoefficientsFit (trialAt c o x)
 unfolding trialAt
-trial-fits c o x t f = go (eqb o 10) (eqb o 12)
-  where
-    go : (a b : Bool)
-        → CoefficientsFit (cond a (coefficients x (c .coefficient2) (c .coefficient3)) (cond b (coefficients (c .coefficient1) x (c .coefficient3)) (coefficients (c .coefficient1) (c .coefficient2) x)))
-    go true b = record { fits-coefficient1 = f; fits-coefficient2 = t .fits-coefficient2; fits-coefficient3 = t .fits-coefficient3 }
-    go false true = record { fits-coefficient1 = t .fits-coefficient1; fits-coefficient2 = f; fits-coefficient3 = t .fits-coefficient3 }
-    go false false = record { fits-coefficient1 = t .fits-coefficient1; fits-coefficient2 = t .fits-coefficient2; fits-coefficient3 = f }
-
-abbrev one-of : Points → Float → Bool → Bool → Bool → Points
-one-of p x a b c =
-    cond a (points x (p .y1) (p .x2) (p .y2))
-    (cond b (points (p .x1) x (p .x2) (p .y2)) (cond c (points (p .x1) (p .y1) x (p .y2)) (points (p .x1) (p .y1) (p .x2) x)))
+trial-fits c o x t f =
+    choose CoefficientsFit (eqb o 10) _ _ (λ e. record { fits-coefficient1 = f; fits-coefficient2 = t .fits-coefficient2; fits-coefficient3 = t .fits-coefficient3 })
+    (λ e. choose CoefficientsFit (eqb o 12) _ _ (λ e. record { fits-coefficient1 = t .fits-coefficient1; fits-coefficient2 = f; fits-coefficient3 = t .fits-coefficient3 })
+    (λ e. record { fits-coefficient1 = t .fits-coefficient1; fits-coefficient2 = t .fits-coefficient2; fits-coefficient3 = f }))
 
 point-finite : (p : Points) (o : ℕ) (x : Float) → pointsFinite p ≡ true → finite x ≡ true → pointsFinite (pointAt p o x) ≡ true
 unfolding pointAt pointsFinite
@@ -66,23 +55,20 @@ point-finite p o x h f =
     let v = both (finite (p .x1) && finite (p .y1) && finite (p .x2)) (finite (p .y2)) h in
     let t = both (finite (p .x1) && finite (p .y1)) (finite (p .x2)) (v .0) in
     let u = both (finite (p .x1)) (finite (p .y1)) (t .0) in
-    go (u .0) (u .1) (t .1) (v .1) (eqb o 16) (eqb o 18) (eqb o 20)
+    choose P (eqb o 16) _ _ (λ e. rw (f, u .1, t .1, v .1))
+    (λ e. choose P (eqb o 18) _ _ (λ e. rw (u .0, f, t .1, v .1))
+    (λ e. choose P (eqb o 20) _ _ (λ e. rw (u .0, u .1, f, v .1)) (λ e. rw (u .0, u .1, t .1, f))))
   where
-    go : finite (p .x1) ≡ true → finite (p .y1) ≡ true → finite (p .x2) ≡ true → finite (p .y2) ≡ true → (a b c : Bool) → pointsFinite (one-of p x a b c) ≡ true
-    go i j k l true b c = rw (f, j, k, l)
-    go i j k l false true c = rw (i, f, k, l)
-    go i j k l false false true = rw (i, j, f, l)
-    go i j k l false false false = rw (i, j, k, f)
+    P : Points → Type 0
+    P q = pointsFinite q ≡ true
 
 point-fits : (p : Points) (o : ℕ) (x : Float) → PointsFit p → T (fits binary32 x) → PointsFit (pointAt p o x)
 unfolding pointAt
-point-fits p o x t f = go (eqb o 16) (eqb o 18) (eqb o 20)
-  where
-    go : (a b c : Bool) → PointsFit (one-of p x a b c)
-    go true b c = record { fits-x1 = f; fits-y1 = t .fits-y1; fits-x2 = t .fits-x2; fits-y2 = t .fits-y2 }
-    go false true c = record { fits-x1 = t .fits-x1; fits-y1 = f; fits-x2 = t .fits-x2; fits-y2 = t .fits-y2 }
-    go false false true = record { fits-x1 = t .fits-x1; fits-y1 = t .fits-y1; fits-x2 = f; fits-y2 = t .fits-y2 }
-    go false false false = record { fits-x1 = t .fits-x1; fits-y1 = t .fits-y1; fits-x2 = t .fits-x2; fits-y2 = f }
+point-fits p o x t f =
+    choose PointsFit (eqb o 16) _ _ (λ e. record { fits-x1 = f; fits-y1 = t .fits-y1; fits-x2 = t .fits-x2; fits-y2 = t .fits-y2 })
+    (λ e. choose PointsFit (eqb o 18) _ _ (λ e. record { fits-x1 = t .fits-x1; fits-y1 = f; fits-x2 = t .fits-x2; fits-y2 = t .fits-y2 })
+    (λ e. choose PointsFit (eqb o 20) _ _ (λ e. record { fits-x1 = t .fits-x1; fits-y1 = t .fits-y1; fits-x2 = f; fits-y2 = t .fits-y2 })
+    (λ e. record { fits-x1 = t .fits-x1; fits-y1 = t .fits-y1; fits-x2 = t .fits-x2; fits-y2 = f })))
 
 -- ---- parameters with one sentinel replaced
 
