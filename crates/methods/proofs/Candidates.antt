@@ -4,12 +4,13 @@ use mathlib.Core.Bool.{Bool, true, false, cond}
 use Prim.Native.Nat.{ℕ, zero, suc, _≤_}
 use native.Mathlib.Omega.{arith}
 use lib.Dec.{T, eqb}
-use lib.Ieee.{binary32, fits, sub, mul, div, eq}
+use lib.Ieee.{binary32, fits, sub, mul, eq}
 use lib.Ieee.Bits.{ofBits-fits}
 use lib.Ieee.Fits.{sub-fits, div-fits}
 use Rattle.floats.specs.Floats.{plusZero}
+use Rattle.floats.proofs.Bools.{choose}
 use Rattle.coefficients.specs.Coefficients.{allFinite, inLimits}
-use Rattle.methods.specs.Methods.{slope, offset, methodNumber, methodOf, pointsOf, candidateOf, verdictOf, judgedOf, codeOf}
+use Rattle.methods.specs.Methods.{slope, methodNumber, methodOf, pointsOf, candidateOf, verdictOf, judgedOf, codeOf}
 use Rattle.coefficients.specs.declared.Coefficients.{Coefficients}
 use Rattle.methods.specs.declared.Points.{Points}
 use Rattle.methods.specs.declared.Method.{Method}
@@ -106,21 +107,16 @@ CandidateFits SameX = Unit {0}
 pub candidate-fits : (m : Method) → MethodFits m → CandidateFits (candidateOf m)
 unfolding candidateOf
 candidate-fits (Direct a b c) t = record { fits-coefficient1 = t .0; fits-coefficient2 = t .1; fits-coefficient3 = t .2 }
-candidate-fits (OnePoint x1 y1) t = go (eq x1 plusZero)
-  where
-    go : (b : Bool) → CandidateFits (cond b ZeroX (Made (record { coefficient1 = plusZero; coefficient2 = div binary32 y1 x1; coefficient3 = plusZero })))
-    go true = tt
-    go false = record { fits-coefficient1 = ofBits-fits binary32 0; fits-coefficient2 = div-fits binary32 y1 x1; fits-coefficient3 = ofBits-fits binary32 0 }
-candidate-fits (TwoPoints x1 y1 x2 y2) t = go (eq x1 x2)
-  where
-    go : (b : Bool) → CandidateFits (cond b SameX (Made (record { coefficient1 = offset (slope x1 y1 x2 y2) x1 y1; coefficient2 = slope x1 y1 x2 y2; coefficient3 = plusZero })))
-    go true = tt
-    go false =
-        record {
-          fits-coefficient1 = sub-fits binary32 y1 (mul binary32 (slope x1 y1 x2 y2) x1);
-          fits-coefficient2 = div-fits binary32 (sub binary32 y1 y2) (sub binary32 x1 x2);
-          fits-coefficient3 = ofBits-fits binary32 0;
-        }
+candidate-fits (OnePoint x1 y1) t =
+    choose CandidateFits (eq x1 plusZero) _ _ (λ e. tt)
+    (λ e. record { fits-coefficient1 = ofBits-fits binary32 0; fits-coefficient2 = div-fits binary32 y1 x1; fits-coefficient3 = ofBits-fits binary32 0 })
+candidate-fits (TwoPoints x1 y1 x2 y2) t =
+    choose CandidateFits (eq x1 x2) _ _ (λ e. tt)
+    (λ e. record {
+      fits-coefficient1 = sub-fits binary32 y1 (mul binary32 (slope x1 y1 x2 y2) x1);
+      fits-coefficient2 = div-fits binary32 (sub binary32 y1 y2) (sub binary32 x1 x2);
+      fits-coefficient3 = ofBits-fits binary32 0;
+    })
 
 -- accepted coefficients fit the format
 pub accepted-fits : (s : ℕ) (m : Method) (c : Coefficients) → MethodFits m → judgedOf s m ≡ Accepted c → CoefficientsFit c
@@ -129,12 +125,9 @@ accepted-fits s m c t e = rw (accepted s m c e .made) at (candidate-fits m t)
 -- a method of coefficients and points that fit the format
 pub method-fits : (n : ℕ) (c : Coefficients) (p : Points) → CoefficientsFit c → PointsFit p → MethodFits (methodOf n c p)
 unfolding methodOf
-method-fits n c p t u = go (eqb n 1) (eqb n 2)
-  where
-    go : (a b : Bool) → MethodFits (cond a (OnePoint (p .x1) (p .y1)) (cond b (TwoPoints (p .x1) (p .y1) (p .x2) (p .y2)) (Direct (c .coefficient1) (c .coefficient2) (c .coefficient3))))
-    go true b = (u .fits-x1, u .fits-y1)
-    go false true = (u .fits-x1, u .fits-y1, u .fits-x2, u .fits-y2)
-    go false false = (t .fits-coefficient1, t .fits-coefficient2, t .fits-coefficient3)
+method-fits n c p t u =
+    choose MethodFits (eqb n 1) _ _ (λ e. (u .fits-x1, u .fits-y1))
+    (λ e. choose MethodFits (eqb n 2) _ _ (λ e. (u .fits-x1, u .fits-y1, u .fits-x2, u .fits-y2)) (λ e. (t .fits-coefficient1, t .fits-coefficient2, t .fits-coefficient3)))
 
 -- the points of a method whose floats fit the format
 pub points-fit : (m : Method) → MethodFits m → PointsFit (pointsOf m)

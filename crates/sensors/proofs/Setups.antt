@@ -1,14 +1,14 @@
 -- The parts of a valid setup and of a valid sensor, and that the setups of a fresh sonde and of a power-up are valid and of the format.
 -- Assumes nothing.
 use mathlib.Core.Path.{_≡_, refl}
-use mathlib.Core.Bool.{Bool, true, false, _&&_, cond}
+use mathlib.Core.Bool.{Bool, true, false, _&&_}
 use Prim.Native.Nat.{ℕ, zero, suc, _≤_}
 use native.Mathlib.Omega.{arith}
 use lib.Dec.{T, eqb}
 use lib.Ieee.{binary32, fits}
 use lib.Ieee.Bits.{ofBits-fits}
 use Rattle.floats.specs.Floats.{finite}
-use Rattle.floats.proofs.Bools.{both}
+use Rattle.floats.proofs.Bools.{both, choose}
 use Rattle.floats.proofs.Words.{plus-zero-finite}
 use Rattle.coefficients.specs.Coefficients.{allFinite, calibrationOf, coefficientsOf, defaultsOf, inLimits}
 use Rattle.coefficients.specs.declared.Coefficients.{Coefficients}
@@ -147,23 +147,17 @@ pub record SetupFits (x : Setup) : Type 0 where
 -- the sentinel of a parameter fits the format
 pub parameter-fits : (q : Parameters) (k : ℕ) → ParametersFit q → T (fits binary32 (parameterOf q k .sentinel))
 unfolding parameterOf
-parameter-fits q k v = go (eqb k 1) (eqb k 2)
+parameter-fits q k v = choose P (eqb k 1) _ _ (λ e. v .fits1) (λ e. choose P (eqb k 2) _ _ (λ e. v .fits2) (λ e. v .fits3))
   where
-    go : (a b : Bool) → T (fits binary32 ((cond a (q .parameter1) (cond b (q .parameter2) (q .parameter3))) .sentinel))
-    go true b = v .fits1
-    go false true = v .fits2
-    go false false = v .fits3
+    P : Parameter → Type 0
+    P p = T (fits binary32 (p .sentinel))
 
 -- ---- a procedure that begins
 
 -- the direct method is allowed on every sensor
 pub direct-allowed : (s : ℕ) → methodAllowed s 0 ≡ true
 unfolding methodAllowed
-direct-allowed s = go (eqb s 3)
-  where
-    go : (b : Bool) → cond b true true ≡ true
-    go true = refl
-    go false = refl
+direct-allowed s = choose (λ t. t ≡ true) (eqb s 3) _ _ (λ e. refl) (λ e. refl)
 
 -- with finite trial coefficients it is valid
 pub new-procedure-valid : (s : ℕ) (mode : Bool) (c : Coefficients) → allFinite c ≡ true → validProcedure s (newProcedure mode c) ≡ true
@@ -190,11 +184,7 @@ default-units (suc (suc (suc (suc k)))) l h = absurd (omega arith)
 
 fresh-level : (s : ℕ) → levelValid s 3 ≡ true
 unfolding levelValid levelAllowed
-fresh-level s = go (eqb s 3)
-  where
-    go : (b : Bool) → cond b true true ≡ true
-    go true = refl
-    go false = refl
+fresh-level s = choose (λ t. t ≡ true) (eqb s 3) _ _ (λ e. refl) (λ e. refl)
 
 fresh-parameters-valid : (s : ℕ) → 1 ≤ s → s ≤ 4 → validParameters s (freshParameters s) ≡ true
 unfolding freshParameters freshParameter

@@ -1,7 +1,7 @@
 -- What a write keeps: a valid setup valid, one of the format of the format, and the coefficients in force unless it is an update; and the
 -- codes of a refusal. Assumes nothing.
 use mathlib.Core.Path.{_≡_, refl, ap}
-use mathlib.Core.Bool.{Bool, true, false, _&&_, cond}
+use mathlib.Core.Bool.{Bool, true, _&&_}
 use Prim.Native.Nat.{ℕ, _≤_}
 use native.Mathlib.Omega.{arith}
 use lib.Dec.{T, eqb, ltb}
@@ -9,8 +9,7 @@ use lib.Ieee.{Float, binary32, fits}
 use Rattle.floats.specs.Floats.{finite, pattern}
 use Rattle.floats.proofs.Bools.{both, choose}
 use Rattle.floats.proofs.Words.{float-of-finite, float-of-fits}
-use Rattle.coefficients.specs.Coefficients.{coefficients, allFinite}
-use Rattle.methods.specs.Methods.{points}
+use Rattle.coefficients.specs.Coefficients.{allFinite}
 use Rattle.coefficients.specs.declared.Coefficients.{Coefficients}
 use Rattle.methods.specs.declared.Points.{Points}
 use Rattle.coefficients.proofs.Bits.{CoefficientsFit}
