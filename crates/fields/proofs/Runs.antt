@@ -45,19 +45,19 @@ stays (f ∷ fs) owner at h = rw (unheld f owner at h) (stays fs owner at h)
 -- ---- the runs of the table
 
 -- the offset at which the registers that exist from r on end
-unfoldable pub run : ℕ → ℕ
-run r = reached fields (r / 100) (r % 100)
+unfoldable pub runEnd : ℕ → ℕ
+runEnd r = reached fields (r / 100) (r % 100)
 
 abbrev steps : ℕ → Bool
-steps r = eqb (run r) (cond (found (fieldAt r)) (run (suc r)) (r % 100))
+steps r = eqb (runEnd r) (cond (found (fieldAt r)) (runEnd (suc r)) (r % 100))
 
 stepped : below steps 500 ≡ true
-unfolding run reach fieldAt holds owns ownerBit
+unfolding runEnd reach fieldAt holds owns ownerBit
 stepped = refl
 
 -- a register that exists has the run of the next one; another has none
-step : (r : ℕ) → run r ≡ cond (found (fieldAt r)) (run (suc r)) (r % 100)
-unfolding run
+step : (r : ℕ) → runEnd r ≡ cond (found (fieldAt r)) (runEnd (suc r)) (r % 100)
+unfolding runEnd
 step r = eqb-true _ _ (everywhere steps 500 stepped outside r)
   where
     outside : (r : ℕ) → 500 ≤ r → steps r ≡ true
@@ -75,8 +75,8 @@ low (f ∷ fs) e owner at h =
     go false s = h
 
 -- no run reaches the end of a block
-ends : (r : ℕ) → run r < 100
-unfolding run
+ends : (r : ℕ) → runEnd r < 100
+unfolding runEnd
 ends r = low fields every-shaped (r / 100) (r % 100) (omega arith)
 
 -- ---- where the pass begins
@@ -102,8 +102,8 @@ skip (suc k) (f ∷ fs) owner at e =
     rw (le-ltb at (f .offset + f .words) l, and-false) (skip k fs owner at (p .1))
 
 -- the pass may begin there
-pub run-begins : (r : ℕ) → run r ≡ reached (drop (r % 100 / 2) fields) (r / 100) (r % 100)
-unfolding run
+pub run-begins : (r : ℕ) → runEnd r ≡ reached (drop (r % 100 / 2) fields) (r / 100) (r % 100)
+unfolding runEnd
 run-begins r = skip (r % 100 / 2) fields (r / 100) (r % 100) (half-before r)
 
 -- ---- registers that all exist
@@ -117,26 +117,26 @@ all-found-at start (suc n) (suc i) e h =
     rw s (all-found-at (suc start) n i (both (found (fieldAt start)) (allFound (suc start) n) e .1) (le-of-suc-le-suc h))
 
 -- they all exist where their run reaches past them
-pub all-found-run : (start count : ℕ) → allFound start count ≡ leb (start % 100 + count) (run start)
-unfolding run
+pub all-found-run : (start count : ℕ) → allFound start count ≡ leb (start % 100 + count) (runEnd start)
+unfolding runEnd
 all-found-run start zero = let e : start % 100 + 0 ≡ start % 100 = omega arith in rw e (sym (le-leb _ _ (reached-up fields (start / 100) (start % 100))))
 all-found-run start (suc n) = go (found (fieldAt start)) refl (all-found-run (suc start) n)
   where
-    go : (b : Bool) → found (fieldAt start) ≡ b → allFound (suc start) n ≡ leb (suc start % 100 + n) (run (suc start))
-        → found (fieldAt start) && allFound (suc start) n ≡ leb (start % 100 + suc n) (run start)
+    go : (b : Bool) → found (fieldAt start) ≡ b → allFound (suc start) n ≡ leb (suc start % 100 + n) (runEnd (suc start))
+        → found (fieldAt start) && allFound (suc start) n ≡ leb (start % 100 + suc n) (runEnd start)
     go true q ih =
-        let s : run start ≡ run (suc start) = rw q at (step start) in
+        let s : runEnd start ≡ runEnd (suc start) = rw q at (step start) in
         let e : suc start % 100 + n ≡ start % 100 + suc n = omega (arith, found-inside start q) in
         rw (q, ih, e, s)
     go false q ih =
-        let s : run start ≡ start % 100 = rw q at (step start) in
+        let s : runEnd start ≡ start % 100 = rw q at (step start) in
         let l : start % 100 < start % 100 + suc n = omega arith in
         rw (q, s) (sym (lt-leb _ _ l))
 
 -- so they are all one owner's
 pub all-found-block : (start count : ℕ) → allFound start count ≡ true → start % 100 + count ≤ 100
 all-found-block start count e =
-    let h : start % 100 + count ≤ run start = leb-true _ _ (sym (all-found-run start count) ∙ e) in
+    let h : start % 100 + count ≤ runEnd start = leb-true _ _ (sym (all-found-run start count) ∙ e) in
     omega (arith, ends start)
 
 -- and none is past the map

@@ -28,17 +28,17 @@ written-sensor r f e a =
     (omega arith, omega (arith, owner-below f (r / 100) o))
 
 -- the method's, a coefficient's or a point's offset
-abbrev pub calibrates : ℕ → Bool
-calibrates o = eqb o 6 || (leb 10 o && leb o 23)
+abbrev pub calibrationOffset : ℕ → Bool
+calibrationOffset o = eqb o 6 || (leb 10 o && leb o 23)
 
 modal : Field → Bool
-modal f = not (eqb (f .access) 2) || calibrates (f .offset)
+modal f = not (eqb (f .access) 2) || calibrationOffset (f .offset)
 
 every-modal : every modal fields ≡ true
 unfolding modal
 every-modal = refl
 
 -- what is writable in mode only is the method, a coefficient or a point
-pub modal-field : (r : ℕ) (f : Field) → fieldAt r ≡ Row f → f .access ≡ 2 → calibrates (f .offset) ≡ true
+pub modal-field : (r : ℕ) (f : Field) → fieldAt r ≡ Row f → f .access ≡ 2 → calibrationOffset (f .offset) ≡ true
 unfolding modal
-modal-field r f e a = given (eqb (f .access) 2) (calibrates (f .offset)) (found-test modal every-modal r f e) (eq-eqb (f .access) 2 a)
+modal-field r f e a = given (eqb (f .access) 2) (calibrationOffset (f .offset)) (found-test modal every-modal r f e) (eq-eqb (f .access) 2 a)

@@ -11,12 +11,12 @@ use Rattle.parameters.specs.Parameters.{countOf, idOf, defaultUnits, uni
 abbrev pub ids : List ℕ
 ids = 1 ∷ 9 ∷ 11 ∷ 20 ∷ 2 ∷ 3 ∷ 51 ∷ []
 
-abbrev pub agrees : List ℕ → Bool
-agrees [] = true
-agrees (id ∷ rest) = cond (eqb (availableUnits id) (listedBits id 128)) (cond (unitsAllowed id (defaultUnits id)) (agrees rest) false) false
+abbrev pub rowsAgree : List ℕ → Bool
+rowsAgree [] = true
+rowsAgree (id ∷ rest) = cond (eqb (availableUnits id) (listedBits id 128)) (cond (unitsAllowed id (defaultUnits id)) (rowsAgree rest) false) false
 
 -- each row's word is the bits of its units, and its default is one of them
-pub available-is-listed : agrees ids ≡ true
+pub available-is-listed : rowsAgree ids ≡ true
 unfolding availableUnits unitsAllowed defaultUnits
 available-is-listed = refl
 

@@ -11,7 +11,7 @@ use borrow.Author.Tests.{eqb-true, ltb-true, le-leb, lt-leb}
 use Rattle.floats.proofs.Bools.{both}
 use Rattle.fields.specs.declared.Field.{Field}
 use Rattle.fields.specs.Fields.{fields, owns, holds, exactly, firstOf, wholeField}
-use Rattle.fields.proofs.Runs.{reach, reached, run, all-found-run, run-begins}
+use Rattle.fields.proofs.Runs.{reach, reached, runEnd, all-found-run, run-begins}
 use Rattle.fields.proofs.Search.{noField, hit, miss, more, row-shape, whole-begins}
 use Rattle.fields.proofs.Spans.{span-whole, span-mismatch, span-gap, span-unowned}
 use Rattle.lookup.specs.Steps.{reachBy}
@@ -21,7 +21,7 @@ use Rattle.lookup.proofs.span.Tie as tie
 abbrev Inv-loop : tie.InvT-loop
 Inv-loop start count bit offset end table at₀ i₀ at i =
     (at ≤ 65535)
-    × (run start ≡ reached (drop i fields) (start / 100) at)
+    × (runEnd start ≡ reached (drop i fields) (start / 100) at)
     × (wholeField start count ≡ firstOf (λ f. exactly f (start / 100) (start % 100) count) (drop i fields))
 
 abbrev μ-loop : tie.MeasureT-loop
@@ -71,14 +71,14 @@ returns-3 c =
     let l = c .before .before in
     let a = l .before .before .before .before .args in
     let n = drop-of-length-le fields (c .before .loop-test .left) in
-    let e : run (a .start) ≡ l .loop .at = rw n at (l .loop .inv .1) in
+    let e : runEnd (a .start) ≡ l .loop .at = rw n at (l .loop .inv .1) in
     sym (span-mismatch (a .start) (a .count) (all-found-run (a .start) (a .count) ∙ rw e (le-leb _ _ (c .if3 .taken))) (rw n at (l .loop .inv .2)))
 
 returns-4 : tie.Need-returns-4 Inv-loop μ-loop
 returns-4 c =
     let l = c .before .before in
     let a = l .before .before .before .before .args in
-    let e : run (a .start) ≡ l .loop .at = rw (drop-of-length-le fields (c .before .loop-test .left)) at (l .loop .inv .1) in
+    let e : runEnd (a .start) ≡ l .loop .at = rw (drop-of-length-le fields (c .before .loop-test .left)) at (l .loop .inv .1) in
     sym (span-gap (a .start) (a .count) (all-found-run (a .start) (a .count) ∙ rw e (lt-leb _ _ (c .if3 .left))))
 
 pub span-spec : {M : Type 1} → statement M
