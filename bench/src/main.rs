@@ -60,8 +60,8 @@ fn instructions(index: usize, row: &Row, name: &str) -> Option<f64> {
     Some((count(COUNTED)? - count(0)?) / COUNTED as f64)
 }
 
-/// The counted run: one row of one side, so many calls. It has a thread's stack, which begins at a page: where the program's own begins depends
-/// on its path and its environment, and with the alignment of what is copied the count would too.
+/// The counted run: one row of one side, so many calls. It has a thread's stack, which begins at a page. Where the program's own begins depends
+/// on its path and environment, and so would the count, by the alignment of what is copied.
 fn counted(arguments: &[String]) {
     let [index, name, calls] = arguments else {
         eprintln!("bench takes no arguments");

@@ -28,7 +28,7 @@ within-finite a m d b n e (inf true) h = h
 within-finite a m d b n e (inf false) h = h
 within-finite a m d b n e (fin sign significand exponent) h = refl
 
--- so is a float with the bits of +0.0
+-- a float with the bits of +0.0 is finite
 bits-finite : (x : Float) → isPlusZero x ≡ true → finite x ≡ true
 unfolding isPlusZero toBits finite
 bits-finite nan h = h
