@@ -10,9 +10,11 @@ use lib.Dec.{ltb, eqb, lit<, lit≤}
 use lib.ListN.{length, getD}
 use Rattle.words.specs.Bytes.{wordAt}
 use Rattle.words.proofs.Bytes.{Bytes}
-use Rattle.modbus.specs.Request.{functionOf, readOf, writeOneOf, word2Of, writeManyOf, writeMaskOf, requestOf}
+use Rattle.modbus.specs.Request.{readOf, writeOneOf, word2Of, writeManyOf, writeMaskOf, requestOf}
+use Rattle.modbus.specs.declared.Value.{Value}
+use Rattle.modbus.specs.declared.Value.the-variants.{Words, Mask}
 use Rattle.modbus.specs.declared.Request.{Request}
-use Rattle.modbus.specs.declared.Request.the-variants.{Unsupported, Malformed, Read, Write, Mask}
+use Rattle.modbus.specs.declared.Request.the-variants.{Unsupported, Malformed, Read, Write}
 
 abbrev Word : ℕ → Type 0
 Word n = n < 65536
@@ -22,26 +24,23 @@ pub record ReadInRange (body : List ℕ) (start count : ℕ) : Type 0 where
   pub least : 1 ≤ count
   pub most : count ≤ 125
 
-pub record WriteInRange (body : List ℕ) (start count word1 word2 : ℕ) : Type 0 where
+-- the words of a value are words
+abbrev pub ValueFits : Value → Type 0
+ValueFits (Words word1 word2) = Word word1 × Word word2
+ValueFits (Mask andMask orMask) = Word andMask × Word orMask
+
+pub record WriteInRange (body : List ℕ) (start count : ℕ) (value : Value) : Type 0 where
   pub long : 6 ≤ length body
   pub start-fits : Bytes body → Word start
   pub least : 1 ≤ count
   pub most : count ≤ 123
-  pub word1-fits : Bytes body → Word word1
-  pub word2-fits : Bytes body → Word word2
-
-pub record MaskInRange (body : List ℕ) (register andMask orMask : ℕ) : Type 0 where
-  pub long : 6 ≤ length body
-  pub register-fits : Bytes body → Word register
-  pub and-fits : Bytes body → Word andMask
-  pub or-fits : Bytes body → Word orMask
+  pub value-fits : Bytes body → ValueFits value
 
 abbrev pub InRange : List ℕ → Request → Type 0
 InRange body Unsupported = Unit {0}
 InRange body Malformed = Unit {0}
 InRange body (Read start count) = ReadInRange body start count
-InRange body (Write start count word1 word2) = WriteInRange body start count word1 word2
-InRange body (Mask register andMask orMask) = MaskInRange body register andMask orMask
+InRange body (Write start count value) = WriteInRange body start count value
 
 module _ (s : List ℕ) where
   either : (b : Bool) (x y : Request) → (b ≡ true → InRange s x) → (b ≡ false → InRange s y) → InRange s (cond b x y)
@@ -72,22 +71,21 @@ module _ (s : List ℕ) where
   write-one : InRange s (writeOneOf s)
   unfolding writeOneOf
   write-one =
-      either (eqb (length s) 6) (Write (wordAt s 2) 1 (wordAt s 4) 0) Malformed
+      either (eqb (length s) 6) _ Malformed
       (λ six.
       record {
         long = omega (arith, eqb-true (length s) 6 six);
         start-fits = word 2;
         least = lit≤ tt;
         most = lit≤ tt;
-        word1-fits = word 4;
-        word2-fits = λ bytes. lit< tt;
+        value-fits = λ bytes. (word 4 bytes, lit< tt);
       })
       (λ t. tt)
 
   write-many : InRange s (writeManyOf s)
   unfolding writeManyOf
   write-many =
-      let w = Write (wordAt s 2) (wordAt s 4) (wordAt s 7) (word2Of s) in
+      let w = Write (wordAt s 2) (wordAt s 4) (Words (wordAt s 7) (word2Of s)) in
       either (ltb (length s) 9) Malformed _ (λ t. tt)
       (λ nine.
       either (ltb (wordAt s 4) 1) Malformed _ (λ t. tt)
@@ -103,8 +101,7 @@ module _ (s : List ℕ) where
         start-fits = word 2;
         least = ltb-false (wordAt s 4) 1 least;
         most = ltb-false 123 (wordAt s 4) most;
-        word1-fits = word 7;
-        word2-fits = word2;
+        value-fits = λ bytes. (word 7 bytes, word2 bytes);
       })
       (λ t. tt))
       (λ t. tt))))
@@ -112,16 +109,24 @@ module _ (s : List ℕ) where
   write-mask : InRange s (writeMaskOf s)
   unfolding writeMaskOf
   write-mask =
-      either (eqb (length s) 8) (Mask (wordAt s 2) (wordAt s 4) (wordAt s 6)) Malformed
-      (λ eight. record { long = omega (arith, eqb-true (length s) 8 eight); register-fits = word 2; and-fits = word 4; or-fits = word 6 }) (λ t. tt)
+      either (eqb (length s) 8) _ Malformed
+      (λ eight.
+      record {
+        long = omega (arith, eqb-true (length s) 8 eight);
+        start-fits = word 2;
+        least = lit≤ tt;
+        most = lit≤ tt;
+        value-fits = λ bytes. (word 4 bytes, word 6 bytes);
+      })
+      (λ t. tt)
 
   -- whatever a body asks for is in range
-  pub in-range : InRange s (requestOf s)
+  pub in-range : (function : ℕ) → InRange s (requestOf function s)
   unfolding requestOf
-  in-range =
-      either (eqb (functionOf s) 3) (readOf s) _ (λ t. read)
+  in-range function =
+      either (eqb function 3) (readOf s) _ (λ t. read)
       (λ t.
-      either (eqb (functionOf s) 6) (writeOneOf s) _ (λ u. write-one)
+      either (eqb function 6) (writeOneOf s) _ (λ u. write-one)
       (λ u.
-      either (eqb (functionOf s) 16) (writeManyOf s) _ (λ v. write-many)
-      (λ v. either (eqb (functionOf s) 22) (writeMaskOf s) Unsupported (λ w. write-mask) (λ w. tt))))
+      either (eqb function 16) (writeManyOf s) _ (λ v. write-many)
+      (λ v. either (eqb function 22) (writeMaskOf s) Unsupported (λ w. write-mask) (λ w. tt))))

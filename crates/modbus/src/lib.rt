@@ -1,7 +1,22 @@
 // What a body of bytes asks for: functions 3, 6, 16 and 22. Nothing here knows which registers exist or what they mean.
 ghost use mathlib.Core.Path.{_≡_};
-ghost use Rattle.modbus.specs.Request.{addressOf, functionOf, requestOf, readOf, writeOneOf, writeManyOf, writeMaskOf, codeOf};
+ghost use lib.ListN.{getD};
+ghost use Rattle.modbus.specs.Request.{headerOf, requestOf, readOf, writeOneOf, writeManyOf, writeMaskOf, codeOf};
 use refusals::codes;
+
+// The first two bytes of a body.
+pub struct Header {
+    pub address: u8,
+    pub function: u8,
+}
+
+// What a write gives its registers.
+pub enum Value {
+    // Functions 6 and 16, the first two words; a second that isn't sent is 0.
+    Words { word1: u16, word2: u16 },
+    // Function 22.
+    Mask { and_mask: u16, or_mask: u16 },
+}
 
 pub enum Request {
     // Another function.
@@ -12,45 +27,38 @@ pub enum Request {
         start: u16,
         count: u16,
     },
-    // Functions 6 and 16, with the first two words; a second that isn't sent is 0.
+    // A mask is a write of one register.
     Write {
         start: u16,
         count: u16,
-        word1: u16,
-        word2: u16,
-    },
-    Mask {
-        register: u16,
-        and_mask: u16,
-        or_mask: u16,
+        value: Value,
     },
 }
 
-// Byte 0 of a body.
-pub fn address(body: &[u8]) -> u8
-    ensures { λ r. ⌜ r ≡ addressOf (now (body .entry)) ⌝ }
+// A byte of a body; 0 past its end.
+fn byte_at(body: &[u8], i: usize) -> u8
+    ensures { λ r. ⌜ r ≡ getD (now (body .entry)) i 0 ⌝ }
 {
-    if body.len() < 1 {
+    if body.len() <= i {
         return 0;
     }
-    body[0]
+    body[i]
 }
 
-// Byte 1 of a body.
-pub fn function(body: &[u8]) -> u8
-    ensures { λ r. ⌜ r ≡ functionOf (now (body .entry)) ⌝ }
+pub fn header_of(body: &[u8]) -> Header
+    ensures { λ r. ⌜ r ≡ headerOf (now (body .entry)) ⌝ }
 {
-    if body.len() < 2 {
-        return 0;
+    Header {
+        address: byte_at(body, 0),
+        function: byte_at(body, 1),
     }
-    body[1]
 }
 
-pub fn decode_request(body: &[u8]) -> Request
-    ensures { λ r. ⌜ r ≡ requestOf (now (body .entry)) ⌝ }
+// What a body with this function asks for.
+pub fn decode_request(function: u8, body: &[u8]) -> Request
+    ensures { λ r. ⌜ r ≡ requestOf function (now (body .entry)) ⌝ }
 {
-    let f = function(body);
-    match f {
+    match function {
         3 => decode_read(body),
         6 => decode_write_one(body),
         16 => decode_write_many(body),
@@ -89,8 +97,7 @@ fn decode_write_one(body: &[u8]) -> Request
     Request::Write {
         start,
         count: 1,
-        word1,
-        word2: 0,
+        value: Value::Words { word1, word2: 0 },
     }
 }
 
@@ -122,16 +129,14 @@ fn decode_write_many(body: &[u8]) -> Request
         return Request::Write {
             start,
             count,
-            word1,
-            word2: 0,
+            value: Value::Words { word1, word2: 0 },
         };
     }
     let word2 = words::word_at(body, 9);
     Request::Write {
         start,
         count,
-        word1,
-        word2,
+        value: Value::Words { word1, word2 },
     }
 }
 
@@ -142,13 +147,13 @@ fn decode_write_mask(body: &[u8]) -> Request
     if body.len() != 8 {
         return Request::Malformed;
     }
-    let register = words::word_at(body, 2);
+    let start = words::word_at(body, 2);
     let and_mask = words::word_at(body, 4);
     let or_mask = words::word_at(body, 6);
-    Request::Mask {
-        register,
-        and_mask,
-        or_mask,
+    Request::Write {
+        start,
+        count: 1,
+        value: Value::Mask { and_mask, or_mask },
     }
 }
 
@@ -163,13 +168,7 @@ pub fn code_of(r: Request) -> u8
         Request::Write {
             start: _,
             count: _,
-            word1: _,
-            word2: _,
-        } => 0,
-        Request::Mask {
-            register: _,
-            and_mask: _,
-            or_mask: _,
+            value: _,
         } => 0,
     }
 }

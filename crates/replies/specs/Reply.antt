@@ -1,21 +1,20 @@
--- Replies, byte for byte. Document 01, "Frames", and the public standard: 6 and 22 answer with the request, 16 with start and count.
--- Assumes nothing.
+-- The bodies of replies, byte for byte, which any framing carries, and their framing. Document 01, "Frames", and the public standard. Assumes nothing.
+use mathlib.Core.Bool.{cond}
 use mathlib.Core.List.{List, [], _∷_}
-use Prim.Native.Nat.{ℕ, _*_, _/_, _%_}
+use Prim.Native.Nat.{ℕ, _*_}
 use lib.Bits.{bitOr}
-use lib.ListN.{length}
+use lib.Dec.{eqb}
+use lib.ListN.{length, take}
 use Rattle.words.specs.Bytes.{bytesOf}
 use Rattle.rtu.specs.Frame.{framed}
-
--- the bodies of replies, which any framing carries
 
 -- function 3: address, function, byte count, the words that were read
 unfoldable pub readBody : ℕ → List ℕ → List ℕ
 readBody address words = address ∷ 3 ∷ 2 * length words ∷ bytesOf words
 
--- function 16: address, function, start, count
-unfoldable pub writeBody : ℕ → ℕ → ℕ → List ℕ
-writeBody address start count = address ∷ 16 ∷ start / 256 ∷ start % 256 ∷ count / 256 ∷ count % 256 ∷ []
+-- functions 6 and 22: the request again; 16: its address, function, start and count, which are six bytes
+unfoldable pub writtenBody : ℕ → List ℕ → List ℕ
+writtenBody function body = cond (eqb function 16) (take 6 body) body
 
 -- "function or 0x80": the bitwise or
 unfoldable pub markedOf : ℕ → ℕ
@@ -25,17 +24,6 @@ markedOf function = bitOr function 0x80
 unfoldable pub exceptionBody : ℕ → ℕ → ℕ → List ℕ
 exceptionBody address function code = address ∷ markedOf function ∷ code ∷ []
 
--- the replies in RTU framing
-
-unfoldable pub readReply : ℕ → List ℕ → List ℕ
-readReply address words = framed (readBody address words)
-
--- functions 6 and 22: the request's body again
-unfoldable pub echoReply : List ℕ → List ℕ
-echoReply body = framed body
-
-unfoldable pub writeReply : ℕ → ℕ → ℕ → List ℕ
-writeReply address start count = framed (writeBody address start count)
-
-unfoldable pub exceptionReply : ℕ → ℕ → ℕ → List ℕ
-exceptionReply address function code = framed (exceptionBody address function code)
+-- a reply's body in its framing; none where there is no body
+unfoldable pub replyOf : List ℕ → List ℕ
+replyOf body = cond (eqb (length body) 0) [] (framed body)

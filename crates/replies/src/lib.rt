@@ -1,12 +1,11 @@
-// Replies with their checksum, written into a lent buffer. Bytes past a reply stay as they were.
+// Bodies of replies, written into a lent buffer; bytes past a body stay as they were. They get their framing once, at the end.
 ghost use mathlib.Core.Path.{_≡_};
 ghost use Prim.Native.Nat.{_+_, _*_, _≤_};
-ghost use lib.ListN.{length};
+ghost use lib.ListN.{length, take};
 ghost use lib.Seq.{sets};
 ghost use Rattle.words.specs.Bytes.{bytesOf};
 ghost use Rattle.rtu.specs.Frame.{overlay};
-ghost use Rattle.replies.specs.Reply.{markedOf, readReply, echoReply, writeReply, exceptionReply};
-use rtu::frame::seal;
+ghost use Rattle.replies.specs.Reply.{markedOf, readBody, writtenBody, exceptionBody, replyOf};
 
 // Words from byte 3 on.
 fn put_words(reply: &mut [u8], words: &[u16])
@@ -19,18 +18,18 @@ fn put_words(reply: &mut [u8], words: &[u16])
     }
 }
 
-// The reply to function 3: the words that were read.
-pub fn put_read(reply: &mut [u8], address: u8, words: &[u16]) -> u16
+// To function 3: the words that were read.
+pub fn put_read(reply: &mut [u8], address: u8, words: &[u16]) -> usize
     requires { ⌜ (256 ≤ length (now reply)) × (length (now words) ≤ 125) ⌝ }
-    ensures { λ r. ⌜ r ≡ length (readReply address (now (words .entry))) ⌝ }
-    ensures { λ _. ⌜ now (reply .exit) ≡ overlay (readReply address (now (words .entry))) (now (reply .entry)) ⌝ }
+    ensures { λ r. ⌜ r ≡ length (readBody address (now (words .entry))) ⌝ }
+    ensures { λ _. ⌜ now (reply .exit) ≡ overlay (readBody address (now (words .entry))) (now (reply .entry)) ⌝ }
 {
     let size = 2 * words.len();
     reply[0] = address;
     reply[1] = 3;
     reply[2] = size as u8;
     put_words(reply, words);
-    seal(reply, 3 + size)
+    3 + size
 }
 
 // Bytes from the start on.
@@ -43,29 +42,18 @@ fn put_bytes(reply: &mut [u8], bytes: &[u8])
     }
 }
 
-// The reply to functions 6 and 22: the request again.
-pub fn put_echo(reply: &mut [u8], body: &[u8]) -> u16
-    requires { ⌜ (256 ≤ length (now reply)) × (length (now body) ≤ 254) ⌝ }
-    ensures { λ r. ⌜ r ≡ length (echoReply (now (body .entry))) ⌝ }
-    ensures { λ _. ⌜ now (reply .exit) ≡ overlay (echoReply (now (body .entry))) (now (reply .entry)) ⌝ }
+// To a write: the request, of function 16 its first six bytes (address, function, start, count).
+pub fn put_written(reply: &mut [u8], function: u8, body: &[u8]) -> usize
+    requires { ⌜ (256 ≤ length (now reply)) × (6 ≤ length (now body)) × (length (now body) ≤ 254) ⌝ }
+    ensures { λ r. ⌜ r ≡ length (writtenBody function (now (body .entry))) ⌝ }
+    ensures { λ _. ⌜ now (reply .exit) ≡ overlay (writtenBody function (now (body .entry))) (now (reply .entry)) ⌝ }
 {
+    if function == 16 {
+        put_bytes(reply, &body[..6]);
+        return 6;
+    }
     put_bytes(reply, body);
-    seal(reply, body.len())
-}
-
-// The reply to function 16: start and count.
-pub fn put_write(reply: &mut [u8], address: u8, start: u16, count: u16) -> u16
-    requires { ⌜ 256 ≤ length (now reply) ⌝ }
-    ensures { λ r. ⌜ r ≡ length (writeReply address start count) ⌝ }
-    ensures { λ _. ⌜ now (reply .exit) ≡ overlay (writeReply address start count) (now (reply .entry)) ⌝ }
-{
-    reply[0] = address;
-    reply[1] = 16;
-    reply[2] = words::high(start);
-    reply[3] = words::low(start);
-    reply[4] = words::high(count);
-    reply[5] = words::low(count);
-    seal(reply, 6)
+    body.len()
 }
 
 // A function's number in an exception reply.
@@ -75,14 +63,26 @@ fn marked(function: u8) -> u8
     function | 0x80
 }
 
-// The reply to a request that is refused by a code.
-pub fn put_exception(reply: &mut [u8], address: u8, function: u8, code: u8) -> u16
+// To a request that is refused by a code.
+pub fn put_exception(reply: &mut [u8], address: u8, function: u8, code: u8) -> usize
     requires { ⌜ 256 ≤ length (now reply) ⌝ }
-    ensures { λ r. ⌜ r ≡ length (exceptionReply address function code) ⌝ }
-    ensures { λ _. ⌜ now (reply .exit) ≡ overlay (exceptionReply address function code) (now (reply .entry)) ⌝ }
+    ensures { λ r. ⌜ r ≡ length (exceptionBody address function code) ⌝ }
+    ensures { λ _. ⌜ now (reply .exit) ≡ overlay (exceptionBody address function code) (now (reply .entry)) ⌝ }
 {
     reply[0] = address;
     reply[1] = marked(function);
     reply[2] = code;
-    seal(reply, 3)
+    3
+}
+
+// The reply's body in the first n bytes gets its framing; no body is no reply.
+pub fn seal(reply: &mut [u8], n: usize) -> u16
+    requires { ⌜ (n ≤ 254) × (256 ≤ length (now reply)) ⌝ }
+    ensures { λ r. ⌜ r ≡ length (replyOf (take n (now (reply .entry)))) ⌝ }
+    ensures { λ _. ⌜ now (reply .exit) ≡ overlay (replyOf (take n (now (reply .entry)))) (now (reply .entry)) ⌝ }
+{
+    if n == 0 {
+        return 0;
+    }
+    rtu::frame::seal(reply, n)
 }

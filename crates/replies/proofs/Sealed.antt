@@ -1,0 +1,26 @@
+-- A reply over a buffer whose start holds its body. Assumes nothing.
+use mathlib.Core.Path.{_≡_, refl}
+use mathlib.Core.Bool.{Bool, true, false, cond}
+use mathlib.Core.List.{List, [], _∷_}
+use Prim.Native.Nat.{ℕ, _+_, _≤_}
+use native.Mathlib.Omega.{arith}
+use lib.Dec.{eqb}
+use lib.ListN.{length}
+use borrow.Author.Tests.{eqb-true}
+use Rattle.rtu.specs.Frame.{framed, overlay}
+use Rattle.rtu.proofs.Stores.{body-stands, sealed}
+use Rattle.replies.specs.Reply.{replyOf}
+
+none-left : (reply b : List ℕ) → length b ≡ 0 → overlay [] (overlay b reply) ≡ overlay [] reply
+unfolding overlay
+none-left reply [] e = refl
+none-left reply (x ∷ xs) e = absurd (omega arith)
+
+-- the reply of a body that stands at the start of a buffer, over that: the reply over the buffer
+pub reply-sealed : (reply b : List ℕ) → length b + 2 ≤ length reply → overlay (replyOf b) (overlay b reply) ≡ overlay (replyOf b) reply
+unfolding replyOf
+reply-sealed reply b h = go (eqb (length b) 0) refl
+  where
+    go : (z : Bool) → eqb (length b) 0 ≡ z → overlay (cond z [] (framed b)) (overlay b reply) ≡ overlay (cond z [] (framed b)) reply
+    go true e = none-left reply b (eqb-true (length b) 0 e)
+    go false e = rw (body-stands reply b (length b) refl) at (sealed reply b (length b) refl h)
