@@ -7,9 +7,10 @@ use lib.Dec.{eqb}
 use lib.ListN.{length}
 use borrow.Author.Tests.{eqb-false}
 use Rattle.floats.proofs.Bools.{choose}
-use Rattle.modbus.specs.Request.{addressOf, functionOf, requestOf}
+use Rattle.modbus.specs.Request.{requestOf}
+use Rattle.modbus.specs.declared.Header.{Header}
 use Rattle.modbus.specs.declared.Request.{Request}
-use Rattle.modbus.specs.declared.Request.the-variants.{Unsupported, Malformed, Read, Write, Mask}
+use Rattle.modbus.specs.declared.Request.the-variants.{Unsupported, Malformed, Read, Write}
 use Rattle.modbus.proofs.Requests.{InRange, in-range}
 use Rattle.fields.specs.Fields.{fieldAt, allFound, spanOf}
 use Rattle.fields.specs.declared.Field.{Field}
@@ -20,21 +21,21 @@ use Rattle.fields.proofs.Registers.{whole-row}
 use Rattle.fields.proofs.Runs.{all-found-ends, all-found-block}
 use Rattle.fields.proofs.Spans.{Says, span-says}
 use Rattle.fields.proofs.Writable.{written-sensor}
-use Rattle.plans.specs.Plans.{targetIn, targetOf, readPlanIn, readPlan, writePlan, maskPlan, requestPlan, planOf}
+use Rattle.plans.specs.Plans.{targetIn, targetOf, readPlanIn, readPlan, writePlan, requestPlan, planOf}
 use Rattle.plans.specs.declared.Target.{Target}
 use Rattle.plans.specs.declared.Target.the-variants.{Unfit, Writable}
 use Rattle.plans.specs.declared.Plan.{Plan}
-use Rattle.plans.specs.declared.Plan.the-variants.{Foreign, BroadcastRead, Refused, Reading, Writing, Masking}
+use Rattle.plans.specs.declared.Plan.the-variants.{Bad, Foreign, BroadcastRead, Refused, Reading, Writing}
 
 -- a field that a write goes to: the register where it begins, and whose it is
-pub record Located (count sensor : ℕ) (f : Field) : Type 0 where
+pub record Located (count owner : ℕ) (f : Field) : Type 0 where
   pub register : ℕ
-  pub owner : register / 100 ≡ sensor
+  pub owner-is : register / 100 ≡ owner
   pub field : fieldAt register ≡ Row f
   pub begins : f .offset ≡ register % 100
   pub all : f .words ≡ count
   pub writable : f .access ≡ 0 → ⊥
-  pub is-sensor : (1 ≤ sensor) × (sensor ≤ 4)
+  pub is-sensor : (1 ≤ owner) × (owner ≤ 4)
 
 pub record Reads (start count : ℕ) : Type 0 where
   pub least : 1 ≤ count
@@ -42,23 +43,23 @@ pub record Reads (start count : ℕ) : Type 0 where
   pub ends : start + count ≤ 500
   pub block : start % 100 + count ≤ 100
 
-pub record Writes (body : List ℕ) (count sensor : ℕ) (f : Field) : Type 0 where
-  pub located : Located count sensor f
+pub record Writes (body : List ℕ) (owner : ℕ) (f : Field) : Type 0 where
+  pub located : Located (f .words) owner f
   pub long : 6 ≤ length body
 
 abbrev pub Facts : List ℕ → Plan → Type 0
+Facts body Bad = Unit {0}
 Facts body Foreign = Unit {0}
 Facts body BroadcastRead = Unit {0}
 Facts body (Refused code) = Unit {0}
 Facts body (Reading start count) = Reads start count
-Facts body (Writing s f high low) = Writes body (f .words) s f
-Facts body (Masking s f a b) = Writes body 1 s f
+Facts body (Writing owner f value) = Writes body owner f
 
 -- ---- the field of a write
 
 abbrev Fit : ℕ → Target → Type 0
 Fit count (Unfit code) = Unit {0}
-Fit count (Writable s f) = Located count s f
+Fit count (Writable owner f) = Located count owner f
 
 module _ (start count : ℕ) where
   span-fit : (x : Span) → Says start count x → Fit count (targetIn (start / 100) x)
@@ -69,7 +70,7 @@ module _ (start count : ℕ) where
       let n = eqb-false (f .access) 0 t in
       record {
         register = start;
-        owner = refl;
+        owner-is = refl;
         field = w .field;
         begins = w .begins;
         all = w .all;
@@ -102,26 +103,21 @@ module _ (body : List ℕ) where
   request-facts Unsupported h = tt
   request-facts Malformed h = tt
   request-facts (Read start count) h = read-facts start count (h .least) (h .most)
-  request-facts (Write start count word1 word2) h = go (targetOf start count) (target-fit start count)
+  request-facts (Write start count value) h = go (targetOf start count) (target-fit start count)
     where
-      go : (t : Target) → Fit count t → Facts body (writePlan word1 word2 t)
+      go : (t : Target) → Fit count t → Facts body (writePlan value t)
       go (Unfit code) l = tt
-      go (Writable s f) l = record { located = subst (λ (n : ℕ). Located n s f) (sym (l .all)) l; long = h .long }
-  request-facts (Mask register a b) h = go (targetOf register 1) (target-fit register 1)
-    where
-      go : (t : Target) → Fit 1 t → Facts body (maskPlan a b t)
-      go (Unfit code) l = tt
-      go (Writable s f) l = record { located = l; long = h .long }
+      go (Writable owner f) l = record { located = subst (λ (n : ℕ). Located n owner f) (sym (l .all)) l; long = h .long }
 
 -- whatever a body asks for has the facts of its plan
-pub plan-facts : (own : ℕ) (body : List ℕ) → Facts body (planOf own body)
+pub plan-facts : (own : ℕ) (h : Header) (body : List ℕ) → Facts body (planOf own h body)
 unfolding planOf
-plan-facts own body =
-    let p = requestPlan (requestOf body) in
-    let r = request-facts body (requestOf body) (in-range body) in
-    choose (Facts body) (eqb (addressOf body) 0) _ _ (λ z. choose (Facts body) (eqb (functionOf body) 3) BroadcastRead p (λ t. tt) (λ t. r))
-    (λ z. choose (Facts body) (eqb (addressOf body) own) p Foreign (λ t. r) (λ t. tt))
+plan-facts own h body =
+    let p = requestPlan (requestOf (h .function) body) in
+    let r = request-facts body (requestOf (h .function) body) (in-range body (h .function)) in
+    choose (Facts body) (eqb (h .address) 0) _ _ (λ z. choose (Facts body) (eqb (h .function) 3) BroadcastRead p (λ t. tt) (λ t. r))
+    (λ z. choose (Facts body) (eqb (h .address) own) p Foreign (λ t. r) (λ t. tt))
 
 -- the facts of a plan that is known
-pub facts-of : (own : ℕ) (body : List ℕ) {p : Plan} → planOf own body ≡ p → Facts body p
-facts-of own body e = subst (Facts body) e (plan-facts own body)
+pub facts-of : (own : ℕ) (h : Header) (body : List ℕ) {p : Plan} → planOf own h body ≡ p → Facts body p
+facts-of own h body e = subst (Facts body) e (plan-facts own h body)

@@ -5,24 +5,26 @@ use mathlib.Core.Bool.{cond}
 use mathlib.Core.List.{List}
 use Prim.Native.Nat.{ℕ, _/_}
 use lib.Dec.{eqb}
-use Rattle.modbus.specs.Request.{addressOf, functionOf, requestOf, codeOf}
+use Rattle.modbus.specs.Request.{requestOf, codeOf}
+use Rattle.modbus.specs.declared.Header.{Header}
+use Rattle.modbus.specs.declared.Value.{Value}
 use Rattle.modbus.specs.declared.Request.{Request}
-use Rattle.modbus.specs.declared.Request.the-variants.{Unsupported, Malformed, Read, Write, Mask}
+use Rattle.modbus.specs.declared.Request.the-variants.{Unsupported, Malformed, Read, Write}
 use Rattle.fields.specs.Fields.{spanOf, codeOf as spanCode}
 use Rattle.fields.specs.declared.Span.{Span}
 use Rattle.fields.specs.declared.Span.the-variants.{Whole, Mismatch, Gap}
 use Rattle.plans.specs.declared.Target.{Target}
 use Rattle.plans.specs.declared.Target.the-variants.{Unfit, Writable}
 use Rattle.plans.specs.declared.Plan.{Plan}
-use Rattle.plans.specs.declared.Plan.the-variants.{Foreign, BroadcastRead, Refused, Reading, Writing, Masking}
+use Rattle.plans.specs.declared.Plan.the-variants.{Foreign, BroadcastRead, Refused, Reading, Writing}
 
--- "2: a register named is absent, or past 0xFFFF", then "0x80: a write isn't exactly one whole field", then "0xC2: read-only"; the device's
--- fields are all read-only, so what is left is a sensor's
+-- "2: a register named is absent, or past 0xFFFF", then "0x80: a write isn't exactly one whole field", then "0xC2: read-only"
 abbrev pub targetIn : ℕ → Span → Target
-targetIn sensor (Whole f) = cond (eqb (f .access) 0) (Unfit 0xC2) (Writable sensor f)
-targetIn sensor Mismatch = Unfit (spanCode Mismatch)
-targetIn sensor Gap = Unfit (spanCode Gap)
+targetIn owner (Whole f) = cond (eqb (f .access) 0) (Unfit 0xC2) (Writable owner f)
+targetIn owner Mismatch = Unfit (spanCode Mismatch)
+targetIn owner Gap = Unfit (spanCode Gap)
 
+-- "Sensor s begins at 100 × s": the owner is the register's hundred, 0 for the device
 unfoldable pub targetOf : ℕ → ℕ → Target
 targetOf start count = targetIn (start / 100) (spanOf start count)
 
@@ -35,24 +37,19 @@ readPlanIn start count Gap = Refused (spanCode Gap)
 unfoldable pub readPlan : ℕ → ℕ → Plan
 readPlan start count = readPlanIn start count (spanOf start count)
 
-abbrev pub writePlan : ℕ → ℕ → Target → Plan
-writePlan high low (Unfit code) = Refused code
-writePlan high low (Writable sensor f) = Writing sensor f high low
-
-abbrev pub maskPlan : ℕ → ℕ → Target → Plan
-maskPlan a b (Unfit code) = Refused code
-maskPlan a b (Writable sensor f) = Masking sensor f a b
+abbrev pub writePlan : Value → Target → Plan
+writePlan value (Unfit code) = Refused code
+writePlan value (Writable owner f) = Writing owner f value
 
 -- codes 1 and 3 are the request's own
 abbrev pub requestPlan : Request → Plan
 requestPlan Unsupported = Refused (codeOf Unsupported)
 requestPlan Malformed = Refused (codeOf Malformed)
 requestPlan (Read start count) = readPlan start count
-requestPlan (Write start count word1 word2) = writePlan word1 word2 (targetOf start count)
-requestPlan (Mask register a b) = maskPlan a b (targetOf register 1)
+requestPlan (Write start count value) = writePlan value (targetOf start count)
 
 -- "Address 0 .. writes are carried out, function 3 counts good and nothing else happens", "another's address counts nothing"
-unfoldable pub planOf : ℕ → List ℕ → Plan
-planOf own body =
-    cond (eqb (addressOf body) 0) (cond (eqb (functionOf body) 3) BroadcastRead (requestPlan (requestOf body)))
-    (cond (eqb (addressOf body) own) (requestPlan (requestOf body)) Foreign)
+unfoldable pub planOf : ℕ → Header → List ℕ → Plan
+planOf own h body =
+    cond (eqb (h .address) 0) (cond (eqb (h .function) 3) BroadcastRead (requestPlan (requestOf (h .function) body)))
+    (cond (eqb (h .address) own) (requestPlan (requestOf (h .function) body)) Foreign)

@@ -1,20 +1,24 @@
 // What a body asks of a sonde: its address, then the map of registers. Everything here is judged before any value is looked at, so the
 // control book and the frame call share it.
 ghost use mathlib.Core.Path.{_≡_};
-ghost use Rattle.plans.specs.Plans.{targetOf, readPlan, writePlan, maskPlan, requestPlan, planOf};
+ghost use Rattle.plans.specs.Plans.{targetOf, readPlan, writePlan, requestPlan, planOf};
 use fields::Field;
 use fields::READ_ONLY;
 use fields::Span;
+use modbus::Header;
 use modbus::Request;
+use modbus::Value;
 use refusals::codes;
 
-// The field that a write goes to, or the code that refuses it.
+// The field that a write goes to, or the code that refuses it. Its owner is 0 for the device, or the sensor's number.
 pub enum Target {
     Unfit(u8),
-    Writable { sensor: u16, field: Field },
+    Writable { owner: u16, field: Field },
 }
 
 pub enum Plan {
+    // No good frame, whatever it says.
+    Bad,
     // Another's address.
     Foreign,
     // A read at address 0.
@@ -25,18 +29,11 @@ pub enum Plan {
         start: u16,
         count: u16,
     },
-    // One whole writable field of a sensor, and the words for it.
+    // One whole writable field, and what it is given.
     Writing {
-        sensor: u16,
+        owner: u16,
         field: Field,
-        high: u16,
-        low: u16,
-    },
-    Masking {
-        sensor: u16,
-        field: Field,
-        and_mask: u16,
-        or_mask: u16,
+        value: Value,
     },
 }
 
@@ -51,7 +48,7 @@ fn target_of(start: u16, count: u16) -> Target
                 return Target::Unfit(codes::READ_ONLY);
             }
             Target::Writable {
-                sensor: start / 100,
+                owner: start / 100,
                 field,
             }
         }
@@ -72,30 +69,15 @@ fn plan_read(start: u16, count: u16) -> Plan
     }
 }
 
-fn plan_write(start: u16, count: u16, high: u16, low: u16) -> Plan
-    ensures { λ r. ⌜ r ≡ writePlan high low (targetOf start count) ⌝ }
+fn plan_write(start: u16, count: u16, value: Value) -> Plan
+    ensures { λ r. ⌜ r ≡ writePlan value (targetOf start count) ⌝ }
 {
     match target_of(start, count) {
         Target::Unfit(code) => Plan::Refused(code),
-        Target::Writable { sensor, field } => Plan::Writing {
-            sensor,
+        Target::Writable { owner, field } => Plan::Writing {
+            owner,
             field,
-            high,
-            low,
-        },
-    }
-}
-
-fn plan_mask(register: u16, and_mask: u16, or_mask: u16) -> Plan
-    ensures { λ r. ⌜ r ≡ maskPlan «and_mask» «or_mask» (targetOf register 1) ⌝ }
-{
-    match target_of(register, 1) {
-        Target::Unfit(code) => Plan::Refused(code),
-        Target::Writable { sensor, field } => Plan::Masking {
-            sensor,
-            field,
-            and_mask,
-            or_mask,
+            value,
         },
     }
 }
@@ -111,28 +93,21 @@ fn plan_request(request: Request) -> Plan
         Request::Write {
             start,
             count,
-            word1,
-            word2,
-        } => plan_write(start, count, word1, word2),
-        Request::Mask {
-            register,
-            and_mask,
-            or_mask,
-        } => plan_mask(register, and_mask, or_mask),
+            value,
+        } => plan_write(start, count, value),
     }
 }
 
-// What a body asks of the sonde with this address.
-pub fn plan_of(own: u8, body: &[u8]) -> Plan
-    ensures { λ r. ⌜ r ≡ planOf own (now (body .entry)) ⌝ }
+// What a body with this header asks of the sonde with this address.
+pub fn plan_of(own: u8, header: Header, body: &[u8]) -> Plan
+    ensures { λ r. ⌜ r ≡ planOf own header (now (body .entry)) ⌝ }
 {
-    let address = modbus::address(body);
-    let broadcast = address == 0;
-    if broadcast & (modbus::function(body) == 3) {
+    let broadcast = header.address == 0;
+    if broadcast & (header.function == 3) {
         return Plan::BroadcastRead;
     }
-    if !broadcast & (address != own) {
+    if !broadcast & (header.address != own) {
         return Plan::Foreign;
     }
-    plan_request(modbus::decode_request(body))
+    plan_request(modbus::decode_request(header.function, body))
 }

@@ -20,37 +20,27 @@ asked false t false b a f e g = absurd (no (sym g))
 returns : tie.Need-returns
 unfolding planOf
 returns c =
-    let f = c .before .function in
-    let a = c .before .before .address in
-    let p = both (eqb (a .result) 0) (eqb (f .result) 3) (c .if1 .taken) in
-    simp (← a .ensures, ← f .ensures, p .0, p .1)
+    let h = c .before .before .before .before .args .header in
+    let p = both (eqb (h .address) 0) (eqb (h .function) 3) (c .if1 .taken) in
+    simp (p .0, p .1)
 
 returns-2 : tie.Need-returns-2
 unfolding planOf
 returns-2 c =
-    let a = c .before .before .before .address in
-    let own = c .before .before .before .before .before .args .own in
-    let p = both (not (eqb (a .result) 0)) (not (eqb (a .result) own)) (c .if2 .taken) in
-    simp (← a .ensures, not-true (eqb (a .result) 0) (p .0), not-true (eqb (a .result) own) (p .1))
+    let a = c .before .before .before .before .before .before .args in
+    let h = a .header in
+    let p = both (not (eqb (h .address) 0)) (not (eqb (h .address) (a .own))) (c .if2 .taken) in
+    simp (not-true (eqb (h .address) 0) (p .0), not-true (eqb (h .address) (a .own)) (p .1))
 
 returns-3 : tie.Need-returns-3
 unfolding planOf
 returns-3 c =
     let d = c .before .before in
-    let f = d .before .before .function in
-    let a = d .before .before .before .address in
-    let own = d .before .before .before .before .before .args .own in
-    rw (← a .ensures, ← f .ensures, ← c .before .decode-request .ensures, ← c .plan-request .ensures)
-    (sym (asked (eqb (a .result) 0) (eqb (f .result) 3) (eqb (a .result) own) _ _ _ (d .before .if1 .left) (d .if2 .left)))
+    let e = d .before .before in
+    let a = e .before .before .before .before .args in
+    let h = a .header in
+    rw (← c .before .decode-request .ensures, ← c .plan-request .ensures)
+    (sym (asked (eqb (h .address) 0) (eqb (h .function) 3) (eqb (h .address) (a .own)) _ _ _ (e .if1 .left) (d .if2 .left)))
 
 pub plan-of-spec : {M : Type 1} → statement M
-plan-of-spec =
-    tie.close
-    (tie.spec
-    (λ c κs. search needs)
-    (λ c κs. search needs)
-    returns
-    returns-2
-    (λ c κs. search needs)
-    (λ c κs. search needs)
-    returns-3)
+plan-of-spec = tie.close (tie.spec returns returns-2 (λ c κs. search needs) (λ c κs. search needs) returns-3)

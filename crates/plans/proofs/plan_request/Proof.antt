@@ -20,10 +20,6 @@ returns-4 : tie.Need-returns-4
 unfolding readPlan targetOf
 returns-4 c = simp (c .before .before .request2 .given .1, ← c .plan-write .ensures)
 
-returns-5 : tie.Need-returns-5
-unfolding readPlan targetOf
-returns-5 c = simp (c .before .before .request3 .given .1, ← c .plan-mask .ensures)
-
 pub plan-request-spec : {M : Type 1} → statement M
 plan-request-spec =
     tie.close
@@ -36,10 +32,7 @@ plan-request-spec =
     (λ c κs. search needs)
     (λ c. search needs)
     (λ c κs. search needs)
-    (λ c. search needs)
-    (λ c κs. search needs)
     returns
     returns-2
     returns-3
-    returns-4
-    returns-5)
+    returns-4)

@@ -10,7 +10,7 @@ returns c = simp (← c .before .before .before .target-of .ensures, c .before .
 
 returns-2 : tie.Need-returns-2
 unfolding targetOf
-returns-2 c = simp (← c .before .before .before .target-of .ensures, c .before .sensor .given .1)
+returns-2 c = simp (← c .before .before .before .target-of .ensures, c .before .owner .given .1)
 
 pub plan-write-spec : {M : Type 1} → statement M
 plan-write-spec =
