@@ -1,6 +1,7 @@
 -- The commands of a calibration. One definition for the frame call and for the control book. Document 01, "Calibration", and the codes of
 -- "What is sent back": 0x92, 0x84, 0x97, 0xC0 in that order. Assumes nothing.
 use mathlib.Core.Bool.{Bool, true, false, cond}
+use mathlib.Core.List.{List, [], _∷_}
 use Prim.Native.Nat.{ℕ}
 use lib.Dec.{eqb}
 use Rattle.methods.specs.Methods.{methodOf, judgedOf, codeOf as verdictCode}
@@ -8,10 +9,17 @@ use Rattle.methods.specs.declared.Method.{Method}
 use Rattle.methods.specs.declared.Verdict.{Verdict}
 use Rattle.methods.specs.declared.Verdict.the-variants.{Accepted, OutsideLimits, NotFinite, Undefined}
 use Rattle.entries.specs.Entries.{entryOf}
+use Rattle.entries.specs.declared.Entry.{Entry}
 use Rattle.sensors.specs.Changes.{restarted, calibratedAt}
 use Rattle.sensors.specs.declared.Setup.{Setup}
+use Rattle.commands.specs.declared.Context.{Context}
 use Rattle.commands.specs.declared.Written.{Written}
 use Rattle.commands.specs.declared.Written.the-variants.{Refused, Stored, Updated}
+
+abbrev pub context : ℕ → Bool → Context
+context clock spare = record { clock = clock; spare = spare }
+
+-- ---- an answer
 
 -- document 01's code for each answer; 0 is no refusal
 abbrev pub codeOf : Written → ℕ
@@ -19,26 +27,54 @@ codeOf (Refused code) = code
 codeOf (Stored s) = 0
 codeOf (Updated s e) = 0
 
+-- the setup that an answer leaves, s being the one before: "a code changes only the message counters"
+abbrev pub setupAfter : Setup → Written → Setup
+setupAfter s (Refused code) = s
+setupAfter s (Stored t) = t
+setupAfter s (Updated t e) = t
+
+-- the entries that it appends
+abbrev pub entriesOf : Written → List Entry
+entriesOf (Refused code) = []
+entriesOf (Stored t) = []
+entriesOf (Updated t e) = e ∷ []
+
+-- ---- a command
+
 -- the method of an update: its number, the trial coefficients and the points are the setup's
 abbrev pub methodSet : Setup → Method
 methodSet s = methodOf (s .procedure .method) (s .procedure .trial) (s .procedure .points)
 
 -- "A full journal is 0xC0. Else .. one entry is appended"; a candidate that isn't accepted is refused by its verdict's code, 0x97
-abbrev pub judgedUpdate : ℕ → Setup → ℕ → Bool → Verdict → Written
-judgedUpdate sensor s clock spare (Accepted c) = cond spare (Updated (calibratedAt s c clock) (entryOf sensor (methodSet s) c clock)) (Refused 0xC0)
-judgedUpdate sensor s clock spare (OutsideLimits c) = Refused (verdictCode (OutsideLimits c))
-judgedUpdate sensor s clock spare NotFinite = Refused (verdictCode NotFinite)
-judgedUpdate sensor s clock spare Undefined = Refused (verdictCode Undefined)
+abbrev pub judgedUpdate : ℕ → Setup → Context → Verdict → Written
+judgedUpdate sensor s context (Accepted c) =
+    cond (context .spare) (Updated (calibratedAt s c (context .clock)) (entryOf sensor (methodSet s) c (context .clock))) (Refused 0xC0)
+judgedUpdate sensor s context (OutsideLimits c) = Refused (verdictCode (OutsideLimits c))
+judgedUpdate sensor s context NotFinite = Refused (verdictCode NotFinite)
+judgedUpdate sensor s context Undefined = Refused (verdictCode Undefined)
 
 -- "0xE001 (update): mode off is 0x92"
-unfoldable pub updated : ℕ → Setup → ℕ → Bool → Written
-updated sensor s clock spare = cond (s .procedure .calibrating) (judgedUpdate sensor s clock spare (judgedOf sensor (methodSet s))) (Refused 0x92)
+unfoldable pub updated : ℕ → Setup → Context → Written
+updated sensor s context = cond (s .procedure .calibrating) (judgedUpdate sensor s context (judgedOf sensor (methodSet s))) (Refused 0x92)
 
 -- "Command 0xE000, mode off: mode on ..; Mode on: accepted, nothing changes", "0xE002: mode off ..; Mode off already: accepted, nothing changes";
 -- a value not listed is 0x84
-unfoldable pub commanded : ℕ → Setup → ℕ → ℕ → Bool → Written
-commanded sensor s value clock spare =
+unfoldable pub commanded : ℕ → Setup → ℕ → Context → Written
+commanded sensor s value context =
     cond (eqb value 0xE000) (cond (s .procedure .calibrating) (Stored s) (Stored (restarted s true)))
-    (cond (eqb value 0xE001) (updated sensor s clock spare)
+    (cond (eqb value 0xE001) (updated sensor s context)
     (cond (eqb value 0xE002) (cond (s .procedure .calibrating) (Stored (restarted s false)) (Stored s))
     (Refused 0x84)))
+
+-- ---- an accepted calibration
+
+-- document 01: "An accepted calibration is a frame .. that writes 0xE001 to a command register and meets no refusal below": the entry of such an
+-- update, none where mode is off (0x92), the candidate isn't accepted (0x97) or the journal is full (0xC0)
+abbrev pub acceptedBy : ℕ → Setup → Context → Verdict → List Entry
+acceptedBy sensor s context (Accepted c) = cond (context .spare) (entryOf sensor (methodSet s) c (context .clock) ∷ []) []
+acceptedBy sensor s context (OutsideLimits c) = []
+acceptedBy sensor s context NotFinite = []
+acceptedBy sensor s context Undefined = []
+
+unfoldable pub acceptedUpdate : ℕ → Setup → Context → List Entry
+acceptedUpdate sensor s context = cond (s .procedure .calibrating) (acceptedBy sensor s context (judgedOf sensor (methodSet s))) []

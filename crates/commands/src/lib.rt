@@ -1,7 +1,7 @@
 // The commands of a calibration, and what a write answers: refused by a code, the new setup, or for an update the new setup and the entry to
 // append.
 ghost use mathlib.Core.Path.{_≡_};
-ghost use Rattle.commands.specs.Commands.{updated, commanded, codeOf};
+ghost use Rattle.commands.specs.Commands.{updated, commanded, codeOf, setupAfter};
 use entries::Entry;
 use entries::entry_of;
 use methods::Verdict;
@@ -9,6 +9,12 @@ use methods::judge;
 use methods::method_of;
 use refusals::codes;
 use sensors::Setup;
+
+// What an update takes from outside the sensor's setup: the time, and whether the journal has room for an entry.
+pub struct Context {
+    pub clock: u32,
+    pub spare: bool,
+}
 
 pub enum Written {
     Refused(u8),
@@ -27,9 +33,20 @@ pub fn code_of(w: Written) -> u8
     }
 }
 
+// The setup that an answer leaves of the one before.
+pub fn setup_after(w: Written, s: Setup) -> Setup
+    ensures { λ r. ⌜ r ≡ setupAfter s w ⌝ }
+{
+    match w {
+        Written::Refused(_) => s,
+        Written::Stored(t) => t,
+        Written::Updated(t, _) => t,
+    }
+}
+
 // Command 0xE001.
-fn update(sensor: u16, s: Setup, clock: u32, spare: bool) -> Written
-    ensures { λ r. ⌜ r ≡ updated sensor s clock spare ⌝ }
+fn update(sensor: u16, s: Setup, context: Context) -> Written
+    ensures { λ r. ⌜ r ≡ updated sensor s context ⌝ }
 {
     let p = s.procedure;
     let calibrating = p.calibrating;
@@ -40,18 +57,22 @@ fn update(sensor: u16, s: Setup, clock: u32, spare: bool) -> Written
     let verdict = judge(sensor, m);
     match verdict {
         Verdict::Accepted(c) => {
+            let spare = context.spare;
             if !spare {
                 return Written::Refused(codes::JOURNAL_FULL);
             }
-            Written::Updated(s.calibrate(c, clock), entry_of(sensor, m, c, clock))
+            Written::Updated(
+                s.calibrate(c, context.clock),
+                entry_of(sensor, m, c, context.clock),
+            )
         }
         _ => Written::Refused(methods::code_of(verdict)),
     }
 }
 
 // The command register.
-pub fn command(sensor: u16, s: Setup, value: u16, clock: u32, spare: bool) -> Written
-    ensures { λ r. ⌜ r ≡ commanded sensor s value clock spare ⌝ }
+pub fn command(sensor: u16, s: Setup, value: u16, context: Context) -> Written
+    ensures { λ r. ⌜ r ≡ commanded sensor s value context ⌝ }
 {
     let calibrating = s.procedure.calibrating;
     match value {
@@ -61,7 +82,7 @@ pub fn command(sensor: u16, s: Setup, value: u16, clock: u32, spare: bool) -> Wr
             }
             Written::Stored(s.restart(true))
         }
-        0xE001 => update(sensor, s, clock, spare),
+        0xE001 => update(sensor, s, context),
         0xE002 => {
             if calibrating {
                 return Written::Stored(s.restart(false));

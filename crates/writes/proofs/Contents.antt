@@ -21,6 +21,7 @@ use Rattle.sensors.specs.declared.Sample.{Sample}
 use Rattle.registers.specs.Registers.{shownCoefficients, coefficientRegister, pointRegister, shownId, parameterRegister, headRegister, sensorRegister}
 use Rattle.writes.proofs.Content.{contentOf, writtenValue}
 use Rattle.writes.specs.Writes.{trialAt, pointAt, withSentinel, withFloat, writeOf}
+use Rattle.commands.specs.declared.Context.{Context}
 use Rattle.commands.specs.declared.Written.the-variants.{Refused, Stored}
 use Rattle.writes.proofs.Outcomes.{in-procedure, in-parameter, Change, same, restart, next, method, float, level, units, write-outcome, stored-change}
 use Rattle.writes.proofs.Rows.{oneWord, one-word, even, modal, level-offset}
@@ -109,7 +110,7 @@ module _ (n : ℕ) (s : Setup) (high low : ℕ) where
 
 -- a write that is stored, of a field of the map that isn't read-only and isn't the command
 module _ (sensor : ℕ) (s : Setup) (r : ℕ) (f : Field) (found : fieldAt r ≡ Row f) (writable : f .access ≡ 0 → ⊥) (value : f .offset ≡ 5 → ⊥)
-    (high low clock : ℕ) (spare : Bool) (t : Setup) (e : writeOf sensor s f high low clock spare ≡ Stored t) where
+    (high low : ℕ) (context : Context) (t : Setup) (e : writeOf sensor s f high low context ≡ Stored t) where
   -- a field that is writable in mode only was written in mode
   mode-on : f .access ≡ 2 → s .procedure .calibrating ≡ true
   unfolding writeOf
@@ -121,7 +122,7 @@ module _ (sensor : ℕ) (s : Setup) (r : ℕ) (f : Field) (found : fieldAt r ≡
 
   -- by the cases of what was stored; the rules of the table give the field's own offset
   pub effect : Takes sensor s t (f .offset) high low
-  effect = of (stored-change (write-outcome sensor s f high low clock spare) t e)
+  effect = of (stored-change (write-outcome sensor s f high low context) t e)
     where
       o : ℕ
       o = f .offset

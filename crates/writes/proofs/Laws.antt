@@ -1,7 +1,8 @@
--- What a write keeps: a valid setup valid, one of the format of the format, and the coefficients in force unless it is an update; and the
--- codes of a refusal. Assumes nothing.
+-- What a write keeps: a valid setup valid, one of the format of the format, and the coefficients in force unless it journals; and the codes
+-- of a refusal. Assumes nothing.
 use mathlib.Core.Path.{_≡_, refl, ap}
-use mathlib.Core.Bool.{Bool, true, _&&_}
+use mathlib.Core.Bool.{true, _&&_}
+use mathlib.Core.List.{List, [], _∷_}
 use Prim.Native.Nat.{ℕ, _≤_}
 use native.Mathlib.Omega.{arith}
 use lib.Dec.{T, eqb, ltb}
@@ -13,21 +14,25 @@ use Rattle.coefficients.specs.Coefficients.{allFinite}
 use Rattle.coefficients.specs.declared.Coefficients.{Coefficients}
 use Rattle.methods.specs.declared.Points.{Points}
 use Rattle.coefficients.proofs.Bits.{CoefficientsFit}
-use Rattle.methods.proofs.Candidates.{PointsFit}
-use Rattle.entries.specs.Entries.{pointsFinite}
+use Rattle.methods.proofs.Candidates.{PointsFit, accepted, accepted-fits, method-fits}
+use Rattle.entries.specs.Entries.{pointsFinite, validEntry, replacedBy}
+use Rattle.entries.specs.declared.Entry.{Entry}
+use Rattle.entries.proofs.Entries.{entryFits, accepted-valid, accepted-entry-fits}
 use Rattle.parameters.specs.Parameters.{parameterNumber}
 use Rattle.fields.specs.declared.Field.{Field}
 use Rattle.sensors.specs.Sensors.{validParameters, validSetup}
-use Rattle.sensors.specs.Changes.{restarted}
+use Rattle.sensors.specs.Changes.{restarted, calibratedAt}
 use Rattle.sensors.specs.declared.Parameters.{Parameters}
 use Rattle.sensors.specs.declared.Active.{Active}
 use Rattle.sensors.specs.declared.Setup.{Setup}
 use Rattle.sensors.proofs.Setups.{ValidProcedure, ParametersFit, SetupFits, valid-procedure-parts, valid-procedure, valid-parameter-parts, valid-parameter, parameter-valid, valid-setup-parts, parameter-fits}
-use Rattle.sensors.proofs.Changed.{with-procedure-valid, with-parameters-valid, with-next-valid, restarted-valid, with-level-valid, with-parameter-valid, units-listed, with-procedure-fits, with-parameters-fits, with-next-fits, restarted-fits, with-parameter-fits}
+use Rattle.sensors.proofs.Changed.{with-procedure-valid, with-parameters-valid, with-next-valid, restarted-valid, with-level-valid, with-parameter-valid, units-listed, calibrated-valid, with-procedure-fits, with-parameters-fits, with-next-fits, restarted-fits, with-parameter-fits, calibrated-fits}
 use Rattle.writes.specs.Writes.{trialAt, pointAt, withSentinel, withFloat, writeOf}
+use Rattle.commands.specs.Commands.{codeOf, setupAfter, entriesOf, methodSet}
+use Rattle.commands.specs.declared.Context.{Context}
 use Rattle.commands.specs.declared.Written.{Written}
-use Rattle.commands.specs.declared.Written.the-variants.{Refused, Stored}
-use Rattle.writes.proofs.Outcomes.{Code, float-below, Change, same, restart, next, method, float, level, units, Outcome, refused, stored, update, write-outcome, stored-change}
+use Rattle.commands.specs.declared.Written.the-variants.{Refused, Stored, Updated}
+use Rattle.writes.proofs.Outcomes.{Code, float-below, Change, same, restart, next, method, float, level, units, Outcome, refused, stored, update, write-outcome}
 
 -- ---- coefficients and points with one value replaced
 
@@ -148,26 +153,72 @@ change-active n s o high low (float x a f) = ap (λ (a : Active). a .calibration
 change-active n s o high low (level r p l) = refl
 change-active n s o high low (units k r i p u) = refl
 
--- ---- the laws of a write
+-- ---- the answer to a write
 
-module _ (sensor : ℕ) (s : Setup) (f : Field) (high low clock : ℕ) (spare : Bool) where
-  -- a value stored leaves a valid setup valid
-  pub write-valid : (t : Setup) → validSetup sensor s ≡ true → writeOf sensor s f high low clock spare ≡ Stored t → validSetup sensor t ≡ true
-  write-valid t h e = change-valid sensor s (f .offset) high low (stored-change (write-outcome sensor s f high low clock spare) t e) h
+-- what a write journals: nothing, and the calibration in force stays; or the one entry of an update, which has code 0
+pub data Journalled (sensor : ℕ) (s t : Setup) (context : Context) (code : ℕ) : List Entry → Type 0 where
+  nothing : t .active .calibration ≡ s .active .calibration → Journalled sensor s t context code []
+  entry : (e : Entry) → code ≡ 0 → context .spare ≡ true → e .sensor ≡ sensor → replacedBy (s .active .calibration) e ≡ t .active .calibration
+      → (validSetup sensor s ≡ true → validEntry e ≡ true) → (SetupFits s → entryFits e ≡ true) → Journalled sensor s t context code (e ∷ [])
+
+module _ (sensor : ℕ) (s : Setup) (f : Field) (high low : ℕ) (context : Context) where
+  abbrev x : Written
+  x = writeOf sensor s f high low context
+
+  abbrev Comes : Written → Type 0
+  Comes = Outcome sensor s (f .offset) high low context
+
+  came : Comes x
+  came = write-outcome sensor s f high low context
+
+  -- a valid setup stays valid
+  pub after-valid : validSetup sensor s ≡ true → validSetup sensor (setupAfter s x) ≡ true
+  after-valid h = of came
+    where
+      of : {w : Written} → Comes w → validSetup sensor (setupAfter s w) ≡ true
+      of (refused c) = h
+      of (stored c) = change-valid sensor s (f .offset) high low c h
+      of (update c i u m r j) = let a = accepted sensor (methodSet s) c j in calibrated-valid sensor s h c (context .clock) (a .all-finite) (a .in-limits)
 
   -- and one of the format of the format
-  pub write-fits : (t : Setup) → SetupFits s → writeOf sensor s f high low clock spare ≡ Stored t → SetupFits t
-  write-fits t v e = change-fits sensor s (f .offset) high low (stored-change (write-outcome sensor s f high low clock spare) t e) v
+  pub after-fits : SetupFits s → SetupFits (setupAfter s x)
+  after-fits v = of came
+    where
+      of : {w : Written} → Comes w → SetupFits (setupAfter s w)
+      of (refused c) = v
+      of (stored c) = change-fits sensor s (f .offset) high low c v
+      of (update c i u m r j) =
+          let p = v .fits-procedure in
+          let m = method-fits (s .procedure .method) (s .procedure .trial) (s .procedure .points) (p .fits-trial) (p .fits-points) in
+          calibrated-fits s v c (context .clock) (accepted-fits sensor (methodSet s) c m j)
 
-  -- only an update changes the coefficients in force and the time of the last calibration
-  pub stored-active : (t : Setup) → writeOf sensor s f high low clock spare ≡ Stored t → t .active .calibration ≡ s .active .calibration
-  stored-active t e = change-active sensor s (f .offset) high low (stored-change (write-outcome sensor s f high low clock spare) t e)
+  pub journalled : Journalled sensor s (setupAfter s x) context (codeOf x) (entriesOf x)
+  unfolding calibratedAt replacedBy
+  journalled = of came
+    where
+      of : {w : Written} → Comes w → Journalled sensor s (setupAfter s w) context (codeOf w) (entriesOf w)
+      of (refused c) = nothing refl
+      of (stored c) = nothing (change-active sensor s (f .offset) high low c)
+      of (update c i u m r j) =
+          let n = s .procedure .method in
+          let trial = s .procedure .trial in
+          let points = s .procedure .points in
+          entry _ refl r refl refl
+          (λ h. let p = valid-procedure-parts sensor (s .procedure) (valid-setup-parts sensor s h .procedure-valid) in
+          accepted-valid sensor n trial points c (context .clock) (p .method-allowed) (p .points-finite) j)
+          (λ v. accepted-entry-fits sensor n trial points c (context .clock) (v .fits-procedure .fits-trial) (v .fits-procedure .fits-points) j)
 
   -- a refusal's code is 0x92, 0x84, 0x97 or 0xC0
-  pub codes : (code : ℕ) → writeOf sensor s f high low clock spare ≡ Refused code → Code code
-  codes code e = of (write-outcome sensor s f high low clock spare) e
+  pub codes : (code : ℕ) → x ≡ Refused code → Code code
+  codes code e = of came e
     where
-      of : {w : Written} → Outcome sensor s (f .offset) high low clock spare w → w ≡ Refused code → Code code
+      of : {w : Written} → Comes w → w ≡ Refused code → Code code
       of (refused {code = c} h) e = let q : c ≡ code = cc in rw q at h
       of (stored h) e = let z : _≡_ {A = ℕ} 0 1 = cc in absurd (omega arith)
       of (update c i u m r j) e = let z : _≡_ {A = ℕ} 0 1 = cc in absurd (omega arith)
+
+-- an answer with a code other than 0 changes nothing
+pub refused-keeps : (s : Setup) (w : Written) → (codeOf w ≡ 0 → ⊥) → (setupAfter s w ≡ s) × (entriesOf w ≡ [])
+refused-keeps s (Refused code) h = (refl, refl)
+refused-keeps s (Stored t) h = absurd (h refl)
+refused-keeps s (Updated t e) h = absurd (h refl)

@@ -22,6 +22,7 @@ use Rattle.sensors.specs.Changes.{procedure, active, withProcedure, withActive,
 use Rattle.sensors.specs.declared.Setup.{Setup}
 use Rattle.commands.specs.Commands.{methodSet, judgedUpdate, updated, commanded}
 use Rattle.writes.specs.Writes.{nextWritten, methodWritten, withFloat, floatStored, floatWritten, levelWritten, unitsWritten, parameterWritten, fieldWritten, writeOf}
+use Rattle.commands.specs.declared.Context.{Context}
 use Rattle.commands.specs.declared.Written.{Written}
 use Rattle.commands.specs.declared.Written.the-variants.{Refused, Stored, Updated}
 
@@ -55,23 +56,23 @@ pub data Change (sensor : ℕ) (s : Setup) (o high low : ℕ) : Setup → Type 0
       → Change sensor s o high low (withParameters s (withParameter (s .parameters) k (record { units = high; sentinel = parameterOf (s .parameters) k .sentinel })))
 
 -- what a write comes to
-pub data Outcome (sensor : ℕ) (s : Setup) (o high low clock : ℕ) (spare : Bool) : Written → Type 0 where
-  refused : {code : ℕ} → Code code → Outcome sensor s o high low clock spare (Refused code)
-  stored : {t : Setup} → Change sensor s o high low t → Outcome sensor s o high low clock spare (Stored t)
-  update : (c : Coefficients) → o ≡ 5 → high ≡ 0xE001 → s .procedure .calibrating ≡ true → spare ≡ true → judgedOf sensor (methodSet s) ≡ Accepted c
-      → Outcome sensor s o high low clock spare (Updated (calibratedAt s c clock) (entryOf sensor (methodSet s) c clock))
+pub data Outcome (sensor : ℕ) (s : Setup) (o high low : ℕ) (context : Context) : Written → Type 0 where
+  refused : {code : ℕ} → Code code → Outcome sensor s o high low context (Refused code)
+  stored : {t : Setup} → Change sensor s o high low t → Outcome sensor s o high low context (Stored t)
+  update : (c : Coefficients) → o ≡ 5 → high ≡ 0xE001 → s .procedure .calibrating ≡ true → context .spare ≡ true → judgedOf sensor (methodSet s) ≡ Accepted c
+      → Outcome sensor s o high low context (Updated (calibratedAt s c (context .clock)) (entryOf sensor (methodSet s) c (context .clock)))
 
-module _ (sensor : ℕ) (s : Setup) (o high low clock : ℕ) (spare : Bool) where
+module _ (sensor : ℕ) (s : Setup) (o high low : ℕ) (context : Context) where
   abbrev P : Written → Type 0
-  P = Outcome sensor s o high low clock spare
+  P = Outcome sensor s o high low context
 
-  judged-outcome : o ≡ 5 → high ≡ 0xE001 → s .procedure .calibrating ≡ true → (v : Verdict) → judgedOf sensor (methodSet s) ≡ v → P (judgedUpdate sensor s clock spare v)
-  judged-outcome i u m (Accepted c) e = choose P spare _ _ (λ r. update c i u m r e) (λ r. refused journal-full)
+  judged-outcome : o ≡ 5 → high ≡ 0xE001 → s .procedure .calibrating ≡ true → (v : Verdict) → judgedOf sensor (methodSet s) ≡ v → P (judgedUpdate sensor s context v)
+  judged-outcome i u m (Accepted c) e = choose P (context .spare) _ _ (λ r. update c i u m r e) (λ r. refused journal-full)
   judged-outcome i u m (OutsideLimits c) e = refused not-accepted
   judged-outcome i u m CandidateNotFinite e = refused not-accepted
   judged-outcome i u m Undefined e = refused not-accepted
 
-  command-outcome : o ≡ 5 → P (commanded sensor s high clock spare)
+  command-outcome : o ≡ 5 → P (commanded sensor s high context)
   unfolding commanded updated
   command-outcome i =
       choose P (eqb high 0xE000) _ _ (λ e. choose P (s .procedure .calibrating) _ _ (λ m. stored (same i)) (λ m. stored (restart true i)))
@@ -98,7 +99,7 @@ module _ (sensor : ℕ) (s : Setup) (o high low clock : ℕ) (spare : Bool) wher
       (λ e. choose P (eqb (parameterPart o) 5) _ _ (λ e. float-outcome (in-parameter r (eqb-true (parameterPart o) 5 e)))
       (λ e. refused not-listed)))
 
-  field-outcome : P (fieldWritten sensor s o high low clock spare)
+  field-outcome : P (fieldWritten sensor s o high low context)
   unfolding fieldWritten nextWritten methodWritten
   field-outcome =
       choose P (eqb o 3) _ _ (λ e. stored (next (eqb-true o 3 e)))
@@ -113,17 +114,17 @@ module _ (sensor : ℕ) (s : Setup) (o high low clock : ℕ) (spare : Bool) wher
       between a b e = let t = both (leb a o) (leb o b) e in (leb-true a o (t .0), leb-true o b (t .1))
 
 -- the outcome of a write
-pub write-outcome : (sensor : ℕ) (s : Setup) (f : Field) (high low clock : ℕ) (spare : Bool)
-    → Outcome sensor s (f .offset) high low clock spare (writeOf sensor s f high low clock spare)
+pub write-outcome : (sensor : ℕ) (s : Setup) (f : Field) (high low : ℕ) (context : Context)
+    → Outcome sensor s (f .offset) high low context (writeOf sensor s f high low context)
 unfolding writeOf
-write-outcome sensor s f high low clock spare =
-    choose P (eqb (f .access) 2 && not (s .procedure .calibrating)) _ _ (λ e. refused mode-off) (λ e. field-outcome sensor s (f .offset) high low clock spare)
+write-outcome sensor s f high low context =
+    choose P (eqb (f .access) 2 && not (s .procedure .calibrating)) _ _ (λ e. refused mode-off) (λ e. field-outcome sensor s (f .offset) high low context)
   where
     P : Written → Type 0
-    P = Outcome sensor s (f .offset) high low clock spare
+    P = Outcome sensor s (f .offset) high low context
 
 -- what was stored
-pub stored-change : {sensor : ℕ} {s : Setup} {o high low clock : ℕ} {spare : Bool} {w : Written} → Outcome sensor s o high low clock spare w → (t : Setup) → w ≡ Stored t
+pub stored-change : {sensor : ℕ} {s : Setup} {o high low : ℕ} {context : Context} {w : Written} → Outcome sensor s o high low context w → (t : Setup) → w ≡ Stored t
     → Change sensor s o high low t
 stored-change (refused h) t e = let z : _≡_ {A = ℕ} 0 1 = cc in absurd (omega arith)
 stored-change {sensor} {s} {o} {high} {low} (stored {t = u} h) t e = subst (Change sensor s o high low) (same-setup u t e) h

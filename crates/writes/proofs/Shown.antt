@@ -13,18 +13,19 @@ use Rattle.sensors.specs.declared.Sample.{Sample}
 use Rattle.registers.specs.Registers.{sensorRegister}
 use Rattle.writes.proofs.Content.{contentOf, writtenValue}
 use Rattle.writes.specs.Writes.{writeOf}
+use Rattle.commands.specs.declared.Context.{Context}
 use Rattle.commands.specs.declared.Written.the-variants.{Stored}
 use Rattle.writes.proofs.Rows.{one-word, level-sensor}
 use Rattle.writes.proofs.Contents.{Takes, effect, write-stores}
 
 -- a write that is stored, of a field of the map that isn't read-only and isn't the command
 module _ (s : Setup) (r : ℕ) (f : Field) (found : fieldAt r ≡ Row f) (writable : f .access ≡ 0 → ⊥) (value : f .offset ≡ 5 → ⊥)
-    (high low clock : ℕ) (spare : Bool) (t : Setup) (e : writeOf (r / 100) s f high low clock spare ≡ Stored t) (x : Sample) where
+    (high low : ℕ) (context : Context) (t : Setup) (e : writeOf (r / 100) s f high low context ≡ Stored t) (x : Sample) where
   takes : Takes (r / 100) s t (f .offset) high low
-  takes = effect (r / 100) s r f found writable value high low clock spare t e
+  takes = effect (r / 100) s r f found writable value high low context t e
 
   stores : high < 65536 → low < 65536 → contentOf t (f .offset) ≡ writtenValue f high low
-  stores = write-stores (r / 100) s r f found writable value high low clock spare t e
+  stores = write-stores (r / 100) s r f found writable value high low context t e
 
   -- the field's first register then reads as the first word written, whatever is measured
   pub write-shown : high < 65536 → low < 65536 → sensorRegister (r / 100) (record { setup = t; sample = x }) (f .offset) ≡ high

@@ -15,13 +15,13 @@ use Rattle.fields.specs.Fields.Found.{Row, Absent}
 use Rattle.sensors.specs.Sensors.{freshParameter, freshParameters, freshSetup}
 use Rattle.sensors.specs.Changes.{newProcedure, restarted, calibratedAt}
 use Rattle.sensors.specs.declared.Setup.{Setup}
-use Rattle.commands.specs.Commands.{updated, commanded}
+use Rattle.commands.specs.Commands.{context, setupAfter, updated, commanded}
 use Rattle.writes.specs.Writes.{methodWritten, trialAt, pointAt, withFloat, floatWritten, fieldWritten, writeOf}
 use Rattle.commands.specs.declared.Written.{Written}
 use Rattle.commands.specs.declared.Written.the-variants.{Refused, Stored, Updated}
 
 abbrev writeRow : Found → ℕ → Setup → ℕ → ℕ → Bool → Written
-writeRow (Row f) sensor s high low spare = writeOf sensor s f high low 70000 spare
+writeRow (Row f) sensor s high low spare = writeOf sensor s f high low (context 70000 spare)
 writeRow Absent sensor s high low spare = Refused 2
 
 -- the field that a register begins, written at clock 70000
@@ -29,13 +29,8 @@ abbrev write : Setup → ℕ → ℕ → ℕ → Bool → Written
 write s register high low spare = writeRow (fieldAt register) (register / 100) s high low spare
 
 -- the setup after a write
-abbrev after : Setup → Written → Setup
-after s (Refused code) = s
-after s (Stored t) = t
-after s (Updated t e) = t
-
 abbrev next : Setup → ℕ → ℕ → Setup
-next s register high = after s (write s register high 0 true)
+next s register high = setupAfter s (write s register high 0 true)
 
 -- what an update gives: its code, and of the entry sensor, method, time, coefficients and points
 abbrev told : Written → List ℕ

@@ -1,7 +1,7 @@
 -- What a write of one whole field that isn't read-only does to a sensor's setup. One definition for the frame call and for the control book.
 -- Document 01, "Calibration", "Register map" and the codes of "What is sent back": 0x92, 0x84, 0x97, 0xC0 in that order; 0xC2 comes before
 -- them, at `targetIn` of plans. Assumes nothing.
-use mathlib.Core.Bool.{Bool, _&&_, not, cond}
+use mathlib.Core.Bool.{_&&_, not, cond}
 use Prim.Native.Nat.{ℕ}
 use lib.Dec.{eqb, leb, ltb}
 use lib.Ieee.{Float}
@@ -20,6 +20,7 @@ use Rattle.sensors.specs.Changes.{procedure, active, withProcedure, withActive,
 use Rattle.sensors.specs.declared.Parameters.{Parameters}
 use Rattle.sensors.specs.declared.Setup.{Setup}
 use Rattle.commands.specs.Commands.{commanded}
+use Rattle.commands.specs.declared.Context.{Context}
 use Rattle.commands.specs.declared.Written.{Written}
 use Rattle.commands.specs.declared.Written.the-variants.{Refused, Stored}
 
@@ -98,16 +99,16 @@ parameterWritten sensor s o high low =
 
 -- the field at an offset, by the ranges of the map; high is the word, or the first of two, low the second. No writable field is outside the
 -- ranges: there 0x84 makes it total
-unfoldable pub fieldWritten : ℕ → Setup → ℕ → ℕ → ℕ → ℕ → Bool → Written
-fieldWritten sensor s o high low clock spare =
+unfoldable pub fieldWritten : ℕ → Setup → ℕ → ℕ → ℕ → Context → Written
+fieldWritten sensor s o high low context =
     cond (eqb o 3) (nextWritten s high low)
-    (cond (eqb o 5) (commanded sensor s high clock spare)
+    (cond (eqb o 5) (commanded sensor s high context)
     (cond (eqb o 6) (methodWritten sensor s high)
     (cond (leb 10 o && leb o 23) (floatWritten s o high low)
     (cond (leb 30 o && leb o 53) (parameterWritten sensor s o high low)
     (Refused 0x84)))))
 
 -- "M field .., mode off" is 0x92, then the value
-unfoldable pub writeOf : ℕ → Setup → Field → ℕ → ℕ → ℕ → Bool → Written
-writeOf sensor s field high low clock spare =
-    cond (eqb (field .access) 2 && not (s .procedure .calibrating)) (Refused 0x92) (fieldWritten sensor s (field .offset) high low clock spare)
+unfoldable pub writeOf : ℕ → Setup → Field → ℕ → ℕ → Context → Written
+writeOf sensor s field high low context =
+    cond (eqb (field .access) 2 && not (s .procedure .calibrating)) (Refused 0x92) (fieldWritten sensor s (field .offset) high low context)

@@ -3,6 +3,7 @@ ghost use mathlib.Core.Path.{_≡_};
 ghost use Prim.Native.Nat.{_≤_};
 ghost use Rattle.writes.specs.Writes.{nextWritten, methodWritten, trialAt, pointAt, withSentinel, withFloat, floatWritten, levelWritten, unitsWritten, parameterWritten, fieldWritten, writeOf};
 use coefficients::Coefficients;
+use commands::Context;
 use commands::Written;
 use commands::command;
 use entries::method_allowed;
@@ -140,20 +141,12 @@ fn write_parameter(sensor: u16, s: Setup, offset: u16, high: u16, low: u16) -> W
 }
 
 // The field at this offset, once the mode allows the write. No field that can be written is at an offset outside these ranges.
-fn write_field(
-    sensor: u16,
-    s: Setup,
-    offset: u16,
-    high: u16,
-    low: u16,
-    clock: u32,
-    spare: bool,
-) -> Written
-    ensures { λ r. ⌜ r ≡ fieldWritten sensor s offset high low clock spare ⌝ }
+fn write_field(sensor: u16, s: Setup, offset: u16, high: u16, low: u16, context: Context) -> Written
+    ensures { λ r. ⌜ r ≡ fieldWritten sensor s offset high low context ⌝ }
 {
     match offset {
         3 => write_next(s, high, low),
-        5 => command(sensor, s, high, clock, spare),
+        5 => command(sensor, s, high, context),
         6 => write_method(sensor, s, high),
         10..=23 => write_float(s, offset, high, low),
         30..=53 => write_parameter(sensor, s, offset, high, low),
@@ -161,22 +154,13 @@ fn write_field(
     }
 }
 
-// The write of a sensor's field that isn't read-only, its value in one word (`high`) or in two; `spare` is whether the journal has room for
-// an entry.
-pub fn write(
-    sensor: u16,
-    s: Setup,
-    field: Field,
-    high: u16,
-    low: u16,
-    clock: u32,
-    spare: bool,
-) -> Written
-    ensures { λ r. ⌜ r ≡ writeOf sensor s field high low clock spare ⌝ }
+// The write of a sensor's field that isn't read-only, its value in one word (`high`) or in two.
+pub fn write(sensor: u16, s: Setup, field: Field, high: u16, low: u16, context: Context) -> Written
+    ensures { λ r. ⌜ r ≡ writeOf sensor s field high low context ⌝ }
 {
     let calibrating = s.procedure.calibrating;
     if (field.access == MODAL) & !calibrating {
         return Written::Refused(codes::SENSOR_MODE);
     }
-    write_field(sensor, s, field.offset, high, low, clock, spare)
+    write_field(sensor, s, field.offset, high, low, context)
 }

@@ -12,6 +12,7 @@ use Rattle.methods.specs.declared.Verdict.the-variants.{Accepted, OutsideLimits
 use Rattle.methods.proofs.Verdict.{the-type}
 use Rattle.sensors.specs.declared.Setup.{Setup}
 use Rattle.commands.specs.Commands.{judgedUpdate, updated}
+use Rattle.commands.specs.declared.Context.{Context}
 use Rattle.commands.specs.declared.Written.{Written}
 use Rattle.commands.specs.declared.Written.the-variants.{Refused}
 use Rattle.commands.proofs.update.Statement.{statement}
@@ -23,11 +24,11 @@ turned true x y = refl
 turned false x y = refl
 
 -- a verdict other than the first is refused by its code
-refused : (sensor : ℕ) (s : Setup) (clock : ℕ) (spare : Bool) (v : Verdict) → OneOf (1 ∷ 2 ∷ 3 ∷ []) (tagOf the-type v) → judgedUpdate sensor s clock spare v ≡ Refused (codeOf v)
-refused sensor s clock spare (Accepted c) h = absurd (miss (1 ∷ 2 ∷ 3 ∷ []) 0 tt h)
-refused sensor s clock spare (OutsideLimits c) h = refl
-refused sensor s clock spare NotFinite h = refl
-refused sensor s clock spare Undefined h = refl
+refused : (sensor : ℕ) (s : Setup) (context : Context) (v : Verdict) → OneOf (1 ∷ 2 ∷ 3 ∷ []) (tagOf the-type v) → judgedUpdate sensor s context v ≡ Refused (codeOf v)
+refused sensor s context (Accepted c) h = absurd (miss (1 ∷ 2 ∷ 3 ∷ []) 0 tt h)
+refused sensor s context (OutsideLimits c) h = refl
+refused sensor s context NotFinite h = refl
+refused sensor s context Undefined h = refl
 
 returns : tie.Need-returns
 unfolding updated
@@ -41,7 +42,7 @@ returns-2 c =
     let d = b .before in
     let e = d .before in
     let f = e .before in
-    simp (turned (f .before .args .s .procedure .calibrating), e .if1 .left, ← d .method-of .ensures, ← b .judge .ensures, a .verdict .given .1, turned (f .before .args .spare), c .if2 .taken)
+    simp (turned (f .before .args .s .procedure .calibrating), e .if1 .left, ← d .method-of .ensures, ← b .judge .ensures, a .verdict .given .1, turned (f .before .args .context .spare), c .if2 .taken)
 
 returns-3 : tie.Need-returns-3
 unfolding updated
@@ -53,7 +54,7 @@ returns-3 c =
     let f = e .before in
     let g = f .before in
     let h = g .before in
-    simp (turned (h .before .args .s .procedure .calibrating), g .if1 .left, ← f .method-of .ensures, ← e .judge .ensures, d .verdict .given .1, turned (h .before .args .spare), b .if2 .left, ← a .calibrate .ensures, ← c .entry-of .ensures)
+    simp (turned (h .before .args .s .procedure .calibrating), g .if1 .left, ← f .method-of .ensures, ← e .judge .ensures, d .verdict .given .1, turned (h .before .args .context .spare), b .if2 .left, ← a .calibrate .ensures, ← c .entry-of .ensures)
 
 returns-4 : tie.Need-returns-4
 unfolding updated
@@ -63,7 +64,7 @@ returns-4 c =
     let d = b .before in
     let e = d .before in
     let x = e .before .before .args in
-    simp (turned (x .s .procedure .calibrating), e .if1 .left, ← d .method-of .ensures, ← b .judge .ensures, refused (x .sensor) (x .s) (x .clock) (x .spare) (b .judge .result) (a .match .keys2), c .code-of .ensures)
+    simp (turned (x .s .procedure .calibrating), e .if1 .left, ← d .method-of .ensures, ← b .judge .ensures, refused (x .sensor) (x .s) (x .context) (b .judge .result) (a .match .keys2), c .code-of .ensures)
 
 pub update-spec : {M : Type 1} → statement M
 update-spec =

@@ -20,28 +20,28 @@ returns-3 c = simp (c .before .match .keys3, ← c .write-method .ensures)
 returns-4 : tie.Need-returns-4
 returns-4 c =
     let a = c .before .before .before .before .args in
-    rw (at-floats (a .sensor) (a .s) (a .offset) (a .high) (a .low) (a .clock) (a .spare) (c .before .before .if1 .left) (c .before .if2 .taken)) (c .write-float .ensures)
+    rw (at-floats (a .sensor) (a .s) (a .offset) (a .high) (a .low) (a .context) (c .before .before .if1 .left) (c .before .if2 .taken)) (c .write-float .ensures)
 
 returns-5 : tie.Need-returns-5
 returns-5 c =
     let a = c .before .before .before .before .before .before .args in
-    rw (at-parameters (a .sensor) (a .s) (a .offset) (a .high) (a .low) (a .clock) (a .spare) (c .before .before .if3 .left) (c .before .if4 .taken)) (c .write-parameter .ensures)
+    rw (at-parameters (a .sensor) (a .s) (a .offset) (a .high) (a .low) (a .context) (c .before .before .if3 .left) (c .before .if4 .taken)) (c .write-parameter .ensures)
 
 returns-6 : tie.Need-returns-6
 returns-6 c =
     let a = c .before .before .args in
     let r = c .before .match .rest in
-    rw (below-ten (a .sensor) (a .s) (a .offset) (a .high) (a .low) (a .clock) (a .spare) (c .if1 .taken) (r .0 .0 .1) (r .0 .1) (r .1))
+    rw (below-ten (a .sensor) (a .s) (a .offset) (a .high) (a .low) (a .context) (c .if1 .taken) (r .0 .0 .1) (r .0 .1) (r .1))
 
 returns-7 : tie.Need-returns-7
 returns-7 c =
     let a = c .before .before .before .before .args in
-    rw (below-thirty (a .sensor) (a .s) (a .offset) (a .high) (a .low) (a .clock) (a .spare) (c .before .if2 .left) (c .if3 .taken))
+    rw (below-thirty (a .sensor) (a .s) (a .offset) (a .high) (a .low) (a .context) (c .before .if2 .left) (c .if3 .taken))
 
 returns-8 : tie.Need-returns-8
 returns-8 c =
     let a = c .before .before .before .before .before .args in
-    rw (past (a .sensor) (a .s) (a .offset) (a .high) (a .low) (a .clock) (a .spare) (c .if4 .left))
+    rw (past (a .sensor) (a .s) (a .offset) (a .high) (a .low) (a .context) (c .if4 .left))
 
 pub write-field-spec : {M : Type 1} → statement M
 write-field-spec =

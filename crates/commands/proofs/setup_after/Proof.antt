@@ -1,0 +1,11 @@
+-- Assumes nothing.
+use borrow.Author.Needs.{needs}
+use Rattle.commands.proofs.setup_after.Statement.{statement}
+use Rattle.commands.proofs.setup_after.Tie as tie
+
+returns : tie.Need-returns
+returns c = simp (c .enum-told .given .1)
+
+pub setup-after-spec : {M : Type 1} → statement M
+setup-after-spec =
+    tie.close (tie.spec (λ c. search needs) (λ c. search needs) (λ c. search needs) returns (λ c. search needs) (λ c. search needs))
