@@ -84,3 +84,7 @@ deviceRegister d o =
     (cond (eqb o 6) (d .exceptions)
     (cond (eqb o 7) (d .capacity)
     (cond (eqb o 8) (d .used) 0))))))))
+
+-- "Sensor s begins at 100 × s": a register by its owner, 0 for the device or a sensor's number, and its offset
+unfoldable pub registerOf : ℕ → Device → Sensor → ℕ → ℕ
+registerOf owner d s o = cond (eqb owner 0) (deviceRegister d o) (sensorRegister owner s o)

@@ -6,11 +6,15 @@ use Prim.Native.Nat.{ℕ, suc, _-_}
 use lib.Dec.{leb, ltb}
 use lib.Ieee.{Float, nan}
 use lib.ListN.{getD, set}
-use Rattle.sensors.specs.Sensors.{freshSensor, validSensor}
+use Rattle.sensors.specs.Sensors.{freshSensor, freshSample, poweredSetup, validSensor}
 use Rattle.sensors.specs.Changes.{measuredSensor, sensorWithSetup}
 use Rattle.sensors.specs.declared.Setup.{Setup}
 use Rattle.sensors.specs.declared.Sensor.{Sensor}
+use Rattle.coefficients.specs.declared.Calibration.{Calibration}
+use Rattle.journal.specs.declared.Calibrations.{Calibrations}
 use Rattle.state.specs.declared.Counters.{Counters}
+use Rattle.state.specs.declared.Event.{Event}
+use Rattle.state.specs.declared.Event.the-variants.{Uncounted, Bad, Good, Exception}
 use Rattle.state.specs.declared.Sonde.{Sonde}
 
 -- ---- counters
@@ -25,15 +29,12 @@ incremented n = cond (ltb n 65535) (suc n) 65535
 unfoldable pub freshCounters : Counters
 freshCounters = counters 0 0 0
 
-unfoldable pub goodCounted : Counters → Counters
-goodCounted c = counters (incremented (c .good)) (c .bad) (c .exceptions)
-
-unfoldable pub badCounted : Counters → Counters
-badCounted c = counters (c .good) (incremented (c .bad)) (c .exceptions)
-
--- "Others count good, and a refused one also as exception"
-unfoldable pub exceptionCounted : Counters → Counters
-exceptionCounted c = counters (incremented (c .good)) (c .bad) (incremented (c .exceptions))
+-- "counts bad"; "another's address counts nothing"; "Others count good, and a refused one also as exception"
+abbrev pub counted : Event → Counters → Counters
+counted Uncounted c = c
+counted Bad c = counters (c .good) (incremented (c .bad)) (c .exceptions)
+counted Good c = counters (incremented (c .good)) (c .bad) (c .exceptions)
+counted Exception c = counters (incremented (c .good)) (c .bad) (incremented (c .exceptions))
 
 -- ---- the sonde
 
@@ -43,6 +44,16 @@ sonde address sensors c = record { address = address; sensors = sensors; counter
 -- "Fresh: modes off, figures, units and sentinels at their defaults, .. times and counters 0, never measured"
 unfoldable pub freshSonde : ℕ → Sonde
 freshSonde address = sonde address (freshSensor 1 ∷ freshSensor 2 ∷ freshSensor 3 ∷ freshSensor 4 ∷ []) freshCounters
+
+-- "Power-up gives replayed figures and times, all else as fresh"
+unfoldable pub poweredSensor : ℕ → Calibration → Sensor
+poweredSensor s c = record { setup = poweredSetup s c; sample = freshSample }
+
+unfoldable pub poweredSonde : ℕ → Calibrations → Sonde
+poweredSonde address c =
+    sonde address
+    (poweredSensor 1 (c .sensor1) ∷ poweredSensor 2 (c .sensor2) ∷ poweredSensor 3 (c .sensor3) ∷ poweredSensor 4 (c .sensor4) ∷ [])
+    freshCounters
 
 -- what the list holds past its end: never read, since a sonde has four sensors
 abbrev pub noSensor : Sensor
@@ -83,17 +94,8 @@ withSetup d s x = withSensor d s (sensorWithSetup (sensorAt d s) x)
 unfoldable pub measuredAt : Sonde → ℕ → Bool → Float → Float → Sonde
 measuredAt d s present raw1 raw2 = withSensor d s (measuredSensor (sensorAt d s) s present raw1 raw2)
 
-unfoldable pub withCounters : Sonde → Counters → Sonde
-withCounters d c = sonde (d .address) (d .sensors) c
-
-unfoldable pub countedGood : Sonde → Sonde
-countedGood d = sonde (d .address) (d .sensors) (goodCounted (d .counters))
-
-unfoldable pub countedBad : Sonde → Sonde
-countedBad d = sonde (d .address) (d .sensors) (badCounted (d .counters))
-
-unfoldable pub countedException : Sonde → Sonde
-countedException d = sonde (d .address) (d .sensors) (exceptionCounted (d .counters))
+unfoldable pub countedBy : Event → Sonde → Sonde
+countedBy e d = sonde (d .address) (d .sensors) (counted e (d .counters))
 
 -- ---- valid; document 01's term is sound
 

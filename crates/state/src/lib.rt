@@ -1,7 +1,10 @@
 // The state of a sonde: an address, four sensors and the message counters. It goes in and comes back by value.
 ghost use mathlib.Core.Path.{_≡_};
 ghost use Rattle.journal.specs.Journal.{IsSensor};
-ghost use Rattle.state.specs.Sonde.{incremented, freshCounters, goodCounted, badCounted, exceptionCounted, freshSonde, addressValid, validSonde, setupAt, withSetup, withCounters, measuredAt, countedGood, countedBad, countedException};
+ghost use Rattle.state.specs.Sonde.{incremented, freshCounters, counted, freshSonde, poweredSensor, poweredSonde, addressValid, validSonde, measuredAt};
+use coefficients::Calibration;
+use journal::Calibrations;
+use sensors::Sample;
 use sensors::Sensor;
 use sensors::Setup;
 
@@ -31,6 +34,14 @@ fn increment(n: u16) -> u16
     65535
 }
 
+// How a frame counts. A refused one is also a good one; another's isn't counted.
+pub enum Event {
+    Uncounted,
+    Bad,
+    Good,
+    Exception,
+}
+
 impl Counters {
     pub fn fresh() -> Self
         ensures { λ r. ⌜ r ≡ freshCounters ⌝ }
@@ -42,31 +53,29 @@ impl Counters {
         }
     }
 
-    pub fn count_good(mut self) -> Self
-        ensures { λ r. ⌜ r ≡ goodCounted self ⌝ }
+    pub fn count(mut self, event: Event) -> Self
+        ensures { λ r. ⌜ r ≡ counted event self ⌝ }
     {
-        let n = increment(self.good);
-        self.good = n;
-        self
-    }
-
-    pub fn count_bad(mut self) -> Self
-        ensures { λ r. ⌜ r ≡ badCounted self ⌝ }
-    {
-        let n = increment(self.bad);
-        self.bad = n;
-        self
-    }
-
-    // A refused message is also a good one.
-    pub fn count_exception(mut self) -> Self
-        ensures { λ r. ⌜ r ≡ exceptionCounted self ⌝ }
-    {
-        let n = increment(self.good);
-        let m = increment(self.exceptions);
-        self.good = n;
-        self.exceptions = m;
-        self
+        match event {
+            Event::Uncounted => self,
+            Event::Bad => {
+                let n = increment(self.bad);
+                self.bad = n;
+                self
+            }
+            Event::Good => {
+                let n = increment(self.good);
+                self.good = n;
+                self
+            }
+            Event::Exception => {
+                let n = increment(self.good);
+                let m = increment(self.exceptions);
+                self.good = n;
+                self.exceptions = m;
+                self
+            }
+        }
     }
 }
 
@@ -75,6 +84,16 @@ pub fn address_valid(address: u8) -> bool
     ensures { λ r. ⌜ r ≡ addressValid address ⌝ }
 {
     (1 <= address) & (address <= 247)
+}
+
+// A sensor as it is after a power-up: fresh, but for the replayed calibration.
+fn powered_sensor(sensor: u16, c: Calibration) -> Sensor
+    ensures { λ r. ⌜ r ≡ poweredSensor sensor c ⌝ }
+{
+    Sensor {
+        setup: Setup::powered(sensor, c),
+        sample: Sample::fresh(),
+    }
 }
 
 impl Sonde {
@@ -93,6 +112,22 @@ impl Sonde {
         }
     }
 
+    // A sonde after a power-up, with the calibrations that replay gives.
+    pub fn powered(address: u8, c: Calibrations) -> Self
+        ensures { λ r. ⌜ r ≡ poweredSonde address c ⌝ }
+    {
+        Sonde {
+            address,
+            sensors: [
+                powered_sensor(1, c.sensor1),
+                powered_sensor(2, c.sensor2),
+                powered_sensor(3, c.sensor3),
+                powered_sensor(4, c.sensor4),
+            ],
+            counters: Counters::fresh(),
+        }
+    }
+
     // Document 01: sound.
     pub fn is_valid(self) -> bool
         ensures { λ r. ⌜ r ≡ validSonde self ⌝ }
@@ -104,32 +139,6 @@ impl Sonde {
         address_valid(self.address) & a.is_valid(1) & b.is_valid(2) & c.is_valid(3) & d.is_valid(4)
     }
 
-    pub fn setup(self, sensor: u16) -> Setup
-        requires { ⌜ IsSensor sensor ⌝ }
-        ensures { λ r. ⌜ r ≡ setupAt self sensor ⌝ }
-    {
-        let x = self.sensors[(sensor as usize) - 1];
-        x.setup
-    }
-
-    pub fn with_setup(mut self, sensor: u16, setup: Setup) -> Self
-        requires { ⌜ IsSensor sensor ⌝ }
-        ensures { λ r. ⌜ r ≡ withSetup self sensor setup ⌝ }
-    {
-        let i = (sensor as usize) - 1;
-        let before = self.sensors[i];
-        let after = before.with_setup(setup);
-        self.sensors[i] = after;
-        self
-    }
-
-    pub fn with_counters(mut self, counters: Counters) -> Self
-        ensures { λ r. ⌜ r ≡ withCounters self counters ⌝ }
-    {
-        self.counters = counters;
-        self
-    }
-
     // A measurement of a sensor.
     pub fn measure(mut self, sensor: u16, present: bool, raw1: f32, raw2: f32) -> Self
         requires { ⌜ IsSensor sensor ⌝ }
@@ -139,33 +148,6 @@ impl Sonde {
         let before = self.sensors[i];
         let after = before.measure(sensor, present, raw1, raw2);
         self.sensors[i] = after;
-        self
-    }
-
-    pub fn count_good(mut self) -> Self
-        ensures { λ r. ⌜ r ≡ countedGood self ⌝ }
-    {
-        let before = self.counters;
-        let counters = before.count_good();
-        self.counters = counters;
-        self
-    }
-
-    pub fn count_bad(mut self) -> Self
-        ensures { λ r. ⌜ r ≡ countedBad self ⌝ }
-    {
-        let before = self.counters;
-        let counters = before.count_bad();
-        self.counters = counters;
-        self
-    }
-
-    pub fn count_exception(mut self) -> Self
-        ensures { λ r. ⌜ r ≡ countedException self ⌝ }
-    {
-        let before = self.counters;
-        let counters = before.count_exception();
-        self.counters = counters;
         self
     }
 }
