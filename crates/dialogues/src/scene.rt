@@ -1,8 +1,8 @@
 // A sonde in a dialogue, and the calls that the dialogue's lines make on it.
 ghost use Prim.Native.Nat.{_≤_};
 ghost use Rattle.io.specs.Counts.{Counts};
-use calls::SondeMade;
 use floats::FloatOf;
+use service::SondeMade;
 use state::Sonde;
 use text::character;
 
@@ -78,21 +78,21 @@ impl Scene {
 
     fn begin(mut self, spelled: &[u8], volume: &mut [u16]) -> Scene {
         let n = lent(volume, word(spelled, 0) as usize);
-        let number = calls::begin(self.sonde, &mut volume[..n]);
-        if number == 0 {
+        let begun = sonde::sonde_begin(self.sonde, &mut volume[..n]);
+        if begun.number == 0 {
             self.words = n;
         }
-        self.gave(number, 0)
+        self.made(begun)
     }
 
     fn power_up(self, spelled: &[u8], volume: &[u16]) -> Scene {
         let n = lent(volume, self.words);
-        self.made(calls::power_up(character(spelled, 0), &volume[..n]))
+        self.made(sonde::sonde_power_up(character(spelled, 0), &volume[..n]))
     }
 
     fn measure(self, spelled: &[u8]) -> Scene {
         let present = character(spelled, 1) != 0;
-        self.made(calls::measure(
+        self.made(sonde::sonde_measure(
             self.sonde,
             character(spelled, 0),
             present,
@@ -103,13 +103,13 @@ impl Scene {
 
     fn audit(self, volume: &[u16]) -> Scene {
         let n = lent(volume, self.words);
-        let a = calls::audit(self.sonde, &volume[..n]);
+        let a = sonde::sonde_audit(self.sonde, &volume[..n]);
         self.gave(a.number, a.entries)
     }
 
     fn frame(mut self, sent: &[u8], reply: &mut [u8], volume: &mut [u16]) -> Scene {
         let n = lent(volume, self.words);
-        let f = frames::frame(self.sonde, sent, reply, &mut volume[..n], self.clock);
+        let f = sonde::sonde_frame(self.sonde, sent, reply, &mut volume[..n], self.clock);
         let sonde = f.sonde;
         self.sonde = sonde;
         self.gave(f.number, f.length)
@@ -120,7 +120,7 @@ impl Scene {
     pub fn call(self, name: u8, spelled: &[u8], reply: &mut [u8], volume: &mut [u16]) -> Scene {
         match name {
             b'c' => self.set_clock(spelled),
-            b'f' => self.made(calls::fresh(character(spelled, 0))),
+            b'f' => self.made(sonde::sonde_fresh(character(spelled, 0))),
             b'b' => self.begin(spelled, volume),
             b'p' => self.power_up(spelled, volume),
             b'm' => self.measure(spelled),

@@ -1,60 +1,54 @@
--- What a frame changes of a sonde, as the code hands it on: the counters, or the setup of the sensor that was written, with the length of
--- the reply. The sonde itself is put together once, at the end. No reader has to believe these definitions: `write-leaves`
--- (frames/proofs/Effects) says that they leave what the definition of the frame call does. Assumes nothing.
-use mathlib.Core.List.{List}
-use Prim.Native.Nat.{ℕ}
+-- What comes of a frame, from the parts of the sonde that the code hands on: its address, its counters, and the sensor that the plan names. No
+-- reader has to believe these definitions: `steps-left` (frames/proofs/Steps) says that they leave what the definition of the frame call does.
+-- Assumes nothing.
+use mathlib.Core.List.{List, []}
+use Prim.Native.Nat.{ℕ, _≤_}
 use lib.ListN.{length}
-use Rattle.journal.specs.Journal.{IsSensor}
-use Rattle.journal.specs.Stores.{appendOf}
-use Rattle.commands.specs.declared.Written.{Written}
-use Rattle.commands.specs.declared.Written.the-variants.{Refused as RefusedBy, Stored as StoredBy, Updated}
-use Rattle.state.specs.Sonde.{withSetup, withCounters, countedGood, countedException}
+use Rattle.rtu.specs.Frame.{bodyOf}
+use Rattle.modbus.specs.Request.{headerOf}
+use Rattle.modbus.specs.declared.Header.{Header}
+use Rattle.sensors.specs.declared.Sensor.{Sensor}
+use Rattle.plans.specs.declared.Plan.{Plan}
+use Rattle.plans.specs.declared.Plan.the-variants.{Bad, Foreign, BroadcastRead, Refused, Reading, Writing}
+use Rattle.state.specs.Sonde.{withSetup}
+use Rattle.state.specs.declared.Counters.{Counters}
+use Rattle.state.specs.declared.Event.the-variants.{Uncounted, Bad as CountedBad, Good, Exception}
 use Rattle.state.specs.declared.Sonde.{Sonde}
-use Rattle.calls.specs.declared.SondeFrame.{SondeFrame}
-use Rattle.calls.specs.Frame.{Outcome, outcome, refusalBytes, confirmationBytes}
-use Rattle.frames.specs.declared.Effect.{Effect}
-use Rattle.frames.specs.declared.Effect.the-variants.{Counted, Refused, Stored}
+use Rattle.replies.specs.Reply.{replyOf}
+use Rattle.service.specs.Frame.{planFor, refusalBody, contextOf, writtenBy}
+use Rattle.service.specs.declared.Arrival.{Arrival}
+use Rattle.reads.specs.Steps.{ownedBody}
+use Rattle.execution.specs.Steps.{Step, step, writeStep}
+use Rattle.execution.specs.declared.Change.{Change}
+use Rattle.execution.specs.declared.Change.the-variants.{Nothing, Setup}
+use Rattle.frames.specs.declared.Served.{Served}
 
--- ---- what an effect leaves
+abbrev pub stepOf : ℕ → Counters → Sensor → Header → List ℕ → List ℕ → Arrival → Plan → Step
+stepOf own c s h body w a Bad = step CountedBad [] Nothing w
+stepOf own c s h body w a Foreign = step Uncounted [] Nothing w
+stepOf own c s h body w a BroadcastRead = step Good [] Nothing w
+stepOf own c s h body w a (Refused code) = step Exception (refusalBody h code) Nothing w
+stepOf own c s h body w a (Reading start count) = step Good (ownedBody own c s w a start count) Nothing w
+stepOf own c s h body w a (Writing owner f v) = writeStep h body w s (writtenBy owner s f v (contextOf w a))
 
-abbrev pub sizeOf : Effect → ℕ
-sizeOf (Counted size c) = size
-sizeOf (Refused size) = size
-sizeOf (Stored size s x) = size
+-- the body of a write is short enough to be sent again
+abbrev pub Bounded : List ℕ → Plan → Type 0
+Bounded body Bad = Unit {0}
+Bounded body Foreign = Unit {0}
+Bounded body BroadcastRead = Unit {0}
+Bounded body (Refused code) = Unit {0}
+Bounded body (Reading start count) = Unit {0}
+Bounded body (Writing owner f v) = length body ≤ 254
 
--- "Others count good, and a refused one also as exception": a write that was stored counts good
-abbrev pub changed : Sonde → Effect → Sonde
-changed d (Counted size c) = withCounters d c
-changed d (Refused size) = countedException d
-changed d (Stored size s x) = countedGood (withSetup d s x)
+-- of a whole frame
+unfoldable pub stepFor : ℕ → Counters → Sensor → List ℕ → List ℕ → Arrival → Step
+stepFor own c s frame w a = stepOf own c s (headerOf (bodyOf frame)) (bodyOf frame) w a (planFor own frame)
 
--- what is stored is one of the four sensors'
-abbrev pub Fit : Effect → Type 0
-Fit (Counted size c) = Unit {0}
-Fit (Refused size) = Unit {0}
-Fit (Stored size s x) = IsSensor s
+-- what the code hands on of it; the rest is in the lent slices
+abbrev pub servedOf : Step → Served
+servedOf x = record { event = x .event; length = length (replyOf (x .body)); change = x .change }
 
-abbrev pub finished : ℕ → ℕ → Sonde → SondeFrame
-finished number size d = record { number = number; length = size; sonde = d }
-
--- all that is left, with the two lent slices as they are then
-abbrev pub leaves : Sonde → Effect → List ℕ → List ℕ → Outcome
-leaves d e reply w = outcome (finished 0 (sizeOf e) (changed d e)) reply w
-
--- ---- the effect of a write
-
-abbrev pub writeEffect : List ℕ → ℕ → Written → Effect
-writeEffect body s (RefusedBy code) = Refused (length (refusalBytes body code))
-writeEffect body s (StoredBy x) = Stored (length (confirmationBytes body)) s x
-writeEffect body s (Updated x e) = Stored (length (confirmationBytes body)) s x
-
-abbrev pub writeBytes : List ℕ → Written → List ℕ
-writeBytes body (RefusedBy code) = refusalBytes body code
-writeBytes body (StoredBy x) = confirmationBytes body
-writeBytes body (Updated x e) = confirmationBytes body
-
--- an update also appends its entry
-abbrev pub writeWords : List ℕ → Written → List ℕ
-writeWords w (RefusedBy code) = w
-writeWords w (StoredBy x) = w
-writeWords w (Updated x e) = appendOf w e
+-- the sonde with a change of the sensor that was named
+abbrev pub changed : Sonde → ℕ → Change → Sonde
+changed d s Nothing = d
+changed d s (Setup x) = withSetup d s x

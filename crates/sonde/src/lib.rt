@@ -1,10 +1,14 @@
-// The six calls for programs in C, as include/sonde.h declares them. A slice is a pointer and a length there.
+// The six calls for programs in C, as include/sonde.h declares them. A slice is a pointer and a length there. The frame call is put together
+// here: a function in between that takes a sonde and hands it back would cost a copy of it.
 ghost use mathlib.Core.Path.{_≡_};
-ghost use Rattle.calls.specs.Calls.{begun, freshOf, beginOf, powerUpOf, measureOf, auditOf};
-ghost use Rattle.calls.specs.Frame.{outcome, frameOf};
-use calls::SondeAudit;
-use calls::SondeFrame;
-use calls::SondeMade;
+ghost use Rattle.service.specs.Calls.{begun, freshOf, beginOf, powerUpOf, measureOf, auditOf};
+ghost use Rattle.service.specs.Frame.{arrival, outcome, frameOf};
+use execution::Change;
+use refusals::numbers;
+use service::Arrival;
+use service::SondeAudit;
+use service::SondeFrame;
+use service::SondeMade;
 use state::Sonde;
 
 #[no_mangle]
@@ -15,7 +19,7 @@ pub extern "C" fn sonde_fresh(address: u8) -> SondeMade
 }
 
 #[no_mangle]
-pub extern "C" fn sonde_begin(sonde: Sonde, volume: &mut [u16]) -> u8
+pub extern "C" fn sonde_begin(sonde: Sonde, volume: &mut [u16]) -> SondeMade
     ensures { λ r. ⌜ begun r (now (volume .exit)) ≡ beginOf sonde (now (volume .entry)) ⌝ }
 {
     calls::begin(sonde, volume)
@@ -41,17 +45,59 @@ pub extern "C" fn sonde_measure(
     calls::measure(sonde, sensor, present, raw1, raw2)
 }
 
+// The numbers come first. Then the frame is judged and answered from the parts of the sonde that it needs, and what it changes is put into the
+// sonde once.
 #[no_mangle]
 pub extern "C" fn sonde_frame(
-    sonde: Sonde,
+    mut sonde: Sonde,
     frame: &[u8],
     reply: &mut [u8],
     volume: &mut [u16],
     clock: u32,
 ) -> SondeFrame
-    ensures { λ r. ⌜ outcome r (now (reply .exit)) (now (volume .exit)) ≡ frameOf sonde (now (frame .entry)) (now (reply .entry)) (now (volume .entry)) clock ⌝ }
+    ensures { λ r. ⌜ outcome r (now (reply .exit)) (now (volume .exit)) ≡ frameOf sonde (now (frame .entry)) (now (reply .entry)) (now (volume .entry)) (arrival clock) ⌝ }
 {
-    frames::frame(sonde, frame, reply, volume, clock)
+    let agreed = sonde.is_valid()
+        & consistency::journal_agrees(consistency::opening(sonde), volume);
+    let number = admission::number_of(reply.len(), agreed);
+    if number != numbers::DONE {
+        return SondeFrame {
+            number,
+            length: 0,
+            sonde,
+        };
+    }
+    let judged = admission::judge(sonde.address, frame);
+    let i = admission::sensor_index(judged);
+    let s = sonde.sensors[i];
+    let counters = sonde.counters;
+    let served = frames::serve(
+        judged,
+        frame,
+        reply,
+        volume,
+        sonde.address,
+        counters,
+        s,
+        Arrival { clock },
+    );
+    let event = served.event;
+    let after = counters.count(event);
+    sonde.counters = after;
+    let length = served.length;
+    let change = served.change;
+    match change {
+        Change::Nothing => {}
+        Change::Setup(setup) => {
+            let t = s.with_setup(setup);
+            sonde.sensors[i] = t;
+        }
+    }
+    SondeFrame {
+        number,
+        length,
+        sonde,
+    }
 }
 
 #[no_mangle]

@@ -1,3 +1,0 @@
-pub mod Agrees
-pub mod Calls
-pub mod Frame

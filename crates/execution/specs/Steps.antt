@@ -1,0 +1,41 @@
+-- What comes of a frame as the code hands it on: how it counts, the reply's body, and what it changes of the sonde and of the volume. No reader
+-- has to believe these definitions: `steps-left` (frames/proofs/Steps) says that they leave what the definition of the frame call does.
+-- Assumes nothing.
+use mathlib.Core.List.{List}
+use Prim.Native.Nat.{ℕ, _<_}
+use lib.ListN.{length, getD}
+use Rattle.journal.specs.Journal.{IsSensor}
+use Rattle.journal.specs.Stores.{appendsOf}
+use Rattle.sensors.specs.declared.Sensor.{Sensor}
+use Rattle.modbus.specs.declared.Header.{Header}
+use Rattle.commands.specs.Commands.{codeOf, setupAfter, entriesOf}
+use Rattle.commands.specs.declared.Written.{Written}
+use Rattle.commands.specs.declared.Written.the-variants.{Refused, Stored, Updated}
+use Rattle.state.specs.declared.Event.{Event}
+use Rattle.service.specs.Frame.{eventOf, writeBody}
+use Rattle.execution.specs.declared.Change.{Change}
+use Rattle.execution.specs.declared.Change.the-variants.{Setup}
+use Rattle.execution.specs.declared.Effect.{Effect}
+
+pub record Step : Type 0 where
+  pub event : Event
+  pub body : List ℕ
+  pub change : Change
+  pub volume : List ℕ
+
+abbrev pub step : Event → List ℕ → Change → List ℕ → Step
+step event body change w = record { event = event; body = body; change = change; volume = w }
+
+-- what the code hands on of it; the rest is in the lent slices
+abbrev pub effectOf : Step → Effect
+effectOf x = record { event = x .event; size = length (x .body); change = x .change }
+
+-- a write's
+abbrev pub writeStep : Header → List ℕ → List ℕ → Sensor → Written → Step
+writeStep h body w s y = step (eventOf (codeOf y)) (writeBody h body (codeOf y)) (Setup (setupAfter (s .setup) y)) (appendsOf w (entriesOf y))
+
+-- an entry that is to be appended has room, and a sensor
+abbrev pub Appendable : List ℕ → Written → Type 0
+Appendable w (Refused code) = Unit {0}
+Appendable w (Stored t) = Unit {0}
+Appendable w (Updated t e) = IsSensor (e .sensor) × (getD w 2 0 < getD w 1 0)

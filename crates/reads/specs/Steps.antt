@@ -1,0 +1,13 @@
+-- The body of the reply to a read as the code works it out: all registers have one owner, whose values are at hand. No reader has to believe
+-- it: `one-owner` (service/proofs/Registers) says that this is what the definition shows. Assumes nothing.
+use mathlib.Core.List.{List}
+use Prim.Native.Nat.{ℕ, _/_, _%_}
+use Rattle.replies.specs.Reply.{readBody}
+use Rattle.registers.specs.Registers.{registerOf}
+use Rattle.sensors.specs.declared.Sensor.{Sensor}
+use Rattle.state.specs.declared.Counters.{Counters}
+use Rattle.service.specs.Reads.{deviceOf, shownFrom}
+use Rattle.service.specs.declared.Arrival.{Arrival}
+
+abbrev pub ownedBody : ℕ → Counters → Sensor → List ℕ → Arrival → ℕ → ℕ → List ℕ
+ownedBody address c s w a start count = readBody address (shownFrom (registerOf (start / 100) (deviceOf c w a) s) (start % 100) count)

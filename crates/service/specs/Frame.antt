@@ -1,0 +1,153 @@
+-- What a frame does: number, sonde, reply and volume as one function of what goes in. Document 01, "Frames", in its order: numbers 3 and 4;
+-- bad; another's; a read at address 0; codes 1, 3, 2, 0x80 and 0xC2, which the plan has; then the field's write. Assumes nothing.
+use mathlib.Core.Bool.{cond}
+use mathlib.Core.List.{List, []}
+use Prim.Native.Nat.{ℕ}
+use lib.Dec.{eqb, ltb}
+use lib.ListN.{length}
+use Rattle.words.specs.Mask.{maskedOf}
+use Rattle.rtu.specs.Frame.{isGood, bodyOf, overlay}
+use Rattle.modbus.specs.Request.{headerOf}
+use Rattle.modbus.specs.declared.Header.{Header}
+use Rattle.modbus.specs.declared.Value.{Value}
+use Rattle.modbus.specs.declared.Value.the-variants.{Words, Mask}
+use Rattle.replies.specs.Reply.{writtenBody, exceptionBody, replyOf}
+use Rattle.fields.specs.declared.Field.{Field}
+use Rattle.journal.specs.Stores.{appendsOf, spareIn}
+use Rattle.sensors.specs.declared.Sensor.{Sensor}
+use Rattle.registers.specs.Registers.{sensorRegister}
+use Rattle.commands.specs.Commands.{context, codeOf, setupAfter, entriesOf}
+use Rattle.commands.specs.declared.Context.{Context}
+use Rattle.commands.specs.declared.Written.{Written}
+use Rattle.writes.specs.Writes.{writeOf}
+use Rattle.plans.specs.Plans.{planOf}
+use Rattle.plans.specs.declared.Plan.{Plan}
+use Rattle.plans.specs.declared.Plan.the-variants.{Bad, Foreign, BroadcastRead, Refused, Reading, Writing}
+use Rattle.state.specs.Sonde.{sensorAt, setupAt, withSetup, countedBy}
+use Rattle.state.specs.declared.Event.{Event}
+use Rattle.state.specs.declared.Event.the-variants.{Uncounted, Bad as CountedBad, Good, Exception}
+use Rattle.state.specs.declared.Sonde.{Sonde}
+use Rattle.service.specs.Agrees.{agrees}
+use Rattle.service.specs.Reads.{readingBody}
+use Rattle.service.specs.declared.Arrival.{Arrival}
+use Rattle.service.specs.declared.SondeFrame.{SondeFrame}
+
+-- ---- what a frame asks for
+
+-- "A frame shorter than 4 or longer than 256 bytes, or with a wrong CRC-16 .., counts bad"; of any other its body is judged
+unfoldable pub planFor : ℕ → List ℕ → Plan
+planFor own frame = cond (isGood frame) (planOf own (headerOf (bodyOf frame)) (bodyOf frame)) Bad
+
+-- the words that a write gives its field: "mask: (old and A) or (B and not A), then as 6"; old is what a read shows
+abbrev pub firstWord : ℕ → Value → ℕ
+firstWord old (Words word1 word2) = word1
+firstWord old (Mask andMask orMask) = maskedOf old andMask orMask
+
+abbrev pub secondWord : Value → ℕ
+secondWord (Words word1 word2) = word2
+secondWord (Mask andMask orMask) = 0
+
+-- ---- what a frame is answered with
+
+-- how it counts, the body of its reply, none for no reply, and the sonde and the volume that it leaves
+pub record Answer : Type 0 where
+  pub event : Event
+  pub body : List ℕ
+  pub sonde : Sonde
+  pub volume : List ℕ
+
+abbrev pub answer : Event → List ℕ → Sonde → List ℕ → Answer
+answer event body d w = record { event = event; body = body; sonde = d; volume = w }
+
+-- "Address 0 never gets a reply"
+unfoldable pub sent : Header → List ℕ → List ℕ
+sent h body = cond (eqb (h .address) 0) [] body
+
+-- "Exception reply: address, function or 0x80, code, CRC"
+abbrev pub refusalBody : Header → ℕ → List ℕ
+refusalBody h code = sent h (exceptionBody (h .address) (h .function) code)
+
+-- the answer to a write by its code, 0 for none: "Others count good, and a refused one also as exception"
+abbrev pub eventOf : ℕ → Event
+eventOf code = cond (eqb code 0) Good Exception
+
+unfoldable pub writeBody : Header → List ℕ → ℕ → List ℕ
+writeBody h body code = cond (eqb code 0) (sent h (writtenBody (h .function) body)) (refusalBody h code)
+
+-- ---- writes
+
+-- what an update takes from outside the setup
+abbrev pub contextOf : List ℕ → Arrival → Context
+contextOf w a = context (a .clock) (spareIn w)
+
+-- the field's own write, by its sensor's values
+unfoldable pub writtenBy : ℕ → Sensor → Field → Value → Context → Written
+writtenBy s x f v c = writeOf s (x .setup) f (firstWord (sensorRegister s x (f .offset)) v) (secondWord v) c
+
+abbrev pub writeAt : Sonde → List ℕ → Arrival → ℕ → Field → Value → Written
+writeAt d w a s f v = writtenBy s (sensorAt d s) f v (contextOf w a)
+
+-- "a code changes only the message counters"; what is stored is the sensor's; an update also appends its entry
+unfoldable pub carried : Sonde → Header → List ℕ → List ℕ → ℕ → Written → Answer
+carried d h body w s x =
+    answer (eventOf (codeOf x)) (writeBody h body (codeOf x)) (withSetup d s (setupAfter (setupAt d s) x)) (appendsOf w (entriesOf x))
+
+-- ---- the frame
+
+-- "another's address counts nothing"; a read at address 0 "counts good and nothing else happens"
+abbrev pub planned : Sonde → Header → List ℕ → List ℕ → Arrival → Plan → Answer
+planned d h body w a Bad = answer CountedBad [] d w
+planned d h body w a Foreign = answer Uncounted [] d w
+planned d h body w a BroadcastRead = answer Good [] d w
+planned d h body w a (Refused code) = answer Exception (refusalBody h code) d w
+planned d h body w a (Reading start count) = answer Good (readingBody d w a start count) d w
+planned d h body w a (Writing s f v) = carried d h body w s (writeAt d w a s f v)
+
+-- the code that refuses what a frame asks; 0 for none
+abbrev pub codeBy : Sonde → List ℕ → Arrival → Plan → ℕ
+codeBy d w a Bad = 0
+codeBy d w a Foreign = 0
+codeBy d w a BroadcastRead = 0
+codeBy d w a (Refused code) = code
+codeBy d w a (Reading start count) = 0
+codeBy d w a (Writing s f v) = codeOf (writeAt d w a s f v)
+
+unfoldable pub answerOf : Sonde → List ℕ → List ℕ → Arrival → Answer
+answerOf d frame w a = planned d (headerOf (bodyOf frame)) (bodyOf frame) w a (planFor (d .address) frame)
+
+-- ---- what is left after the call
+
+-- all that a frame call leaves: what it hands back, and the two slices that were lent to it
+pub record Outcome : Type 0 where
+  pub number : ℕ
+  pub size : ℕ
+  pub sonde : Sonde
+  pub reply : List ℕ
+  pub volume : List ℕ
+
+abbrev pub outcome : SondeFrame → List ℕ → List ℕ → Outcome
+outcome r reply volume = record { number = r .number; size = r .length; sonde = r .sonde; reply = reply; volume = volume }
+
+-- "A number changes nothing"; length 0
+abbrev pub refusedBy : ℕ → Sonde → SondeFrame
+refusedBy number d = record { number = number; length = 0; sonde = d }
+
+-- "a frame refused by code also gives 0, and each frame gives its reply's length, 0 for none"; "Reply bytes past the reply's length stay"
+unfoldable pub left : Answer → List ℕ → Outcome
+left x reply =
+    record {
+      number = 0;
+      size = length (replyOf (x .body));
+      sonde = countedBy (x .event) (x .sonde);
+      reply = overlay (replyOf (x .body)) reply;
+      volume = x .volume;
+    }
+
+abbrev pub arrival : ℕ → Arrival
+arrival clock = record { clock = clock }
+
+-- "3: reply buffer under 256 bytes", then number 4
+unfoldable pub frameOf : Sonde → List ℕ → List ℕ → List ℕ → Arrival → Outcome
+frameOf d frame reply w a =
+    cond (ltb (length reply) 256) (outcome (refusedBy 3 d) reply w)
+    (cond (agrees d w) (left (answerOf d frame w a) reply) (outcome (refusedBy 4 d) reply w))

@@ -1,0 +1,4 @@
+pub mod Agrees
+pub mod Calls
+pub mod Reads
+pub mod Frame

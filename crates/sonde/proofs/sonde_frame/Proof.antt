@@ -1,0 +1,116 @@
+-- The numbers come first, in their order; then what the frame changes is put into the sonde. Assumes nothing.
+use mathlib.Core.Path.{_≡_, _∙_}
+use native.Mathlib.Omega.{arith}
+use lib.ListN.{length}
+use borrow.Author.Tests.{ltb-false}
+use Rattle.rtu.specs.Frame.{bodyOf}
+use Rattle.state.specs.Sonde.{sensorAt}
+use Rattle.service.specs.Agrees.{agrees}
+use Rattle.service.specs.Frame.{planFor, arrival}
+use Rattle.service.proofs.Parts.{agrees-parts, frame-facts}
+use Rattle.admission.specs.Steps.{numberBy}
+use Rattle.admission.proofs.Owners.{owner-below}
+use Rattle.sonde.proofs.Left.{refused-left, passed, nothing-left, setup-left}
+use borrow.Author.Needs.{needs}
+use Rattle.sonde.proofs.sonde_frame.Statement.{statement}
+use Rattle.sonde.proofs.sonde_frame.Tie as tie
+
+returns : tie.Need-returns
+unfolding agrees
+returns c =
+    let n = c .before in
+    let j = n .before in
+    let o = j .before .before in
+    let v = o .before in
+    let a = v .before .before .before .before .args in
+    let e : n .number-of .result ≡ numberBy (length (a .reply .now)) (agrees (a .t1) (a .volume .now))
+    = n .number-of .ensures ∙ rw (v .is-valid .ensures, j .journal-agrees .ensures, o .opening .ensures) in
+    refused-left (a .t1) (a .frame .now) (a .reply .now) (a .volume .now) (arrival (a .clock)) (n .number-of .result) e (c .if1 .taken)
+
+sensor-index-requires : tie.Need-sensor-index-requires
+sensor-index-requires c κs =
+    let a = c .before .before .before .before .before .before .before .before .before .before .args in
+    rw (c .judge .ensures) (owner-below (bodyOf (a .frame .now)) (planFor (a .t1 .address) (a .frame .now)) (frame-facts (a .t1 .address) (a .frame .now)))
+
+serve-requires : tie.Need-serve-requires
+unfolding agrees
+serve-requires c κs =
+    let g = c .before .before .before .before .before in
+    let n = g .before .before in
+    let j = n .before in
+    let o = j .before .before in
+    let v = o .before in
+    let a = v .before .before .before .before .args in
+    let e : n .number-of .result ≡ numberBy (length (a .reply .now)) (agrees (a .t1) (a .volume .now))
+    = n .number-of .ensures ∙ rw (v .is-valid .ensures, j .journal-agrees .ensures, o .opening .ensures) in
+    let p = agrees-parts (a .t1) (a .volume .now) (passed (length (a .reply .now)) (agrees (a .t1) (a .volume .now)) (n .number-of .result) e (g .before .if1 .left) .1) in
+    let l = ltb-false (length (a .reply .now)) 256 (passed (length (a .reply .now)) (agrees (a .t1) (a .volume .now)) (n .number-of .result) e (g .before .if1 .left) .0) in
+    (l, p .volume-valid, g .judge .ensures)
+
+mul-t : tie.Need-mul-t
+mul-t c = omega (arith, c .before .before .before .before .before .before .before .before .before .before .before .before .before .before .sensor-index .ensures .1)
+
+element-set-from-t : tie.Need-element-set-from-t
+element-set-from-t c = omega (arith, c .before .before .before .before .before .before .before .before .before .before .before .before .before .before .sensor-index .ensures .1)
+
+returns-2 : tie.Need-returns-2
+unfolding agrees sensorAt
+returns-2 c =
+    let r = c .before .before .before .before .before .before .before in
+    let i = r .before .before .before .before .before in
+    let g = i .before in
+    let n = g .before .before in
+    let j = n .before in
+    let o = j .before .before in
+    let v = o .before in
+    let a = v .before .before .before .before .args in
+    let e : n .number-of .result ≡ numberBy (length (a .reply .now)) (agrees (a .t1) (a .volume .now))
+    = n .number-of .ensures ∙ rw (v .is-valid .ensures, j .journal-agrees .ensures, o .opening .ensures) in
+    let own = rw (g .judge .ensures) at (i .sensor-index .ensures .0) in
+    nothing-left (a .t1) (a .frame .now) (a .reply .now) (a .volume .now) (arrival (a .clock)) (n .number-of .result) e (g .before .if1 .left) (r .serve .result) _ _ _ _ (rw own)
+    (r .serve .ensures .0) (r .serve .ensures .1 .0) (r .serve .ensures .1 .1) (c .before .before .count .ensures) (c .enum-told .given .1)
+
+returns-3 : tie.Need-returns-3
+unfolding agrees sensorAt
+returns-3 c =
+    let r = c .before .before .before .before .before .before .before .before .before in
+    let i = r .before .before .before .before .before in
+    let g = i .before in
+    let n = g .before .before in
+    let j = n .before in
+    let o = j .before .before in
+    let v = o .before in
+    let a = v .before .before .before .before .args in
+    let e : n .number-of .result ≡ numberBy (length (a .reply .now)) (agrees (a .t1) (a .volume .now))
+    = n .number-of .ensures ∙ rw (v .is-valid .ensures, j .journal-agrees .ensures, o .opening .ensures) in
+    let own = rw (g .judge .ensures) at (i .sensor-index .ensures .0) in
+    setup-left (a .t1) (a .frame .now) (a .reply .now) (a .volume .now) (arrival (a .clock)) (n .number-of .result) e (g .before .if1 .left) (r .serve .result) _ _ _ _ (rw own)
+    (r .serve .ensures .0) (r .serve .ensures .1 .0) (r .serve .ensures .1 .1) (c .before .before .before .before .count .ensures) _ _ _ (c .before .before .change .given .1) (c .with-setup .ensures) own
+
+pub sonde-frame-spec : {M : Type 1} → statement M
+sonde-frame-spec =
+    tie.close
+    (tie.spec
+    (λ c κs. search needs)
+    (λ c κs. search needs)
+    (λ c κs. search needs)
+    (λ c κs. search needs)
+    (λ c. search needs)
+    returns
+    (λ c κs. search needs)
+    sensor-index-requires
+    (λ c. search needs)
+    (λ c. search needs)
+    serve-requires
+    (λ c κs. search needs)
+    (λ c. search needs)
+    (λ c. search needs)
+    (λ c κs. search needs)
+    mul-t
+    element-set-from-t
+    (λ c. search needs)
+    (λ c. search needs)
+    returns-2
+    (λ c. search needs)
+    (λ c. search needs)
+    returns-3)
