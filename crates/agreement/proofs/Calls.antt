@@ -26,9 +26,9 @@ use Rattle.sensors.specs.declared.Setup.{Setup}
 use Rattle.sensors.proofs.Setups.{valid-setup-parts}
 use Rattle.state.specs.Sonde.{setupAt, addressValid, validSonde}
 use Rattle.state.specs.declared.Sonde.{Sonde}
-use Rattle.calls.specs.Agrees.{openings}
-use Rattle.calls.specs.Calls.{unmade, freshOf, Begun, beginOf, rawsFinite, measureOf, powerUpOf}
-use Rattle.calls.specs.declared.SondeMade.{SondeMade}
+use Rattle.service.specs.Agrees.{openings}
+use Rattle.service.specs.Calls.{rejected, freshOf, Begun, beginOf, rawsFinite, measureOf, powerUpOf}
+use Rattle.service.specs.declared.SondeMade.{SondeMade}
 use Rattle.agreement.specs.Model.{Model, model, setupOf, actives, modelStart, modelBegin, poweredSetups, modelPowerUp}
 use Rattle.agreement.specs.Runs.{Call, State, state, numberOf, after, start, modelAfter}
 use Rattle.agreement.specs.Runs.Call.{Measure, PowerUp, Begin}
@@ -71,7 +71,7 @@ setup-powered ys = sensor-cases (λ s. setupOf (poweredSetups ys) s .active .cal
 
 -- the calibrations that the volume gives are the book's
 pub power-up-keeps : {x : State} {b : Model} → Invariant x b → (address : ℕ) → Keeps x b (PowerUp address)
-unfolding numberOf after modelAfter noted powerUpOf replayed unmade modelPowerUp
+unfolding numberOf after modelAfter noted powerUpOf replayed rejected modelPowerUp
 power-up-keeps {x} {b} h address = go (addressValid address) refl
   where
     go : (v : Bool) → addressValid address ≡ v → Keeps x b (PowerUp address)
@@ -138,7 +138,7 @@ begin-keeps {x} {b} h w = go (ltb (length w) 88) refl
 
 -- what it says that neither is refused
 fresh-made : (address : ℕ) → freshOf address .number ≡ 0 → addressValid address ≡ true
-unfolding freshOf unmade
+unfolding freshOf rejected
 fresh-made address = choose (λ (r : SondeMade). r .number ≡ 0 → addressValid address ≡ true) (addressValid address) _ _ (λ v e. v) (λ v e. absurd (omega arith))
 
 begin-made : (d : Sonde) (w : List ℕ) → beginOf d w .number ≡ 0 → 88 ≤ length w

@@ -2,11 +2,18 @@
 -- Assumes nothing.
 use mathlib.Core.Path.{_≡_, refl, sym, ap, _∙_}
 use mathlib.Core.Bool.{true}
-use Prim.Native.Nat.{ℕ}
+use mathlib.Core.List.{List, [], _∷_}
+use Prim.Native.Nat.{ℕ, zero, suc, _<_}
 use native.Mathlib.Nat.{zero-add}
+use native.Mathlib.Omega.{arith}
+use lib.ListN.{length, getD}
+use Rattle.floats.proofs.Bools.{both}
 use Rattle.coefficients.specs.Coefficients.{sameCalibration}
 use Rattle.coefficients.proofs.Bits.{same-calibration-refl}
-use Rattle.journal.specs.Journal.{IsSensor, ofSensor, indicesFrom, latest}
+use Rattle.entries.specs.Entries.{validEntry}
+use Rattle.entries.specs.declared.Entry.{Entry}
+use Rattle.entries.proofs.Entries.{entry-sensor}
+use Rattle.journal.specs.Journal.{IsSensor, ofSensor, indicesFrom, latest, every}
 use Rattle.journal.specs.Valid.{chainOf, valid}
 use Rattle.journal.specs.Replay.{replayOf, replays}
 use Rattle.journal.proofs.Tests.{sensor-cases, four-intro}
@@ -16,8 +23,8 @@ use Rattle.sensors.specs.declared.Setup.{Setup}
 use Rattle.sensors.proofs.Setups.{active-parts}
 use Rattle.state.specs.Sonde.{setupAt}
 use Rattle.state.specs.declared.Sonde.{Sonde}
-use Rattle.calls.specs.Agrees.{openings, sameCalibrations, journalAgrees, agrees}
-use Rattle.calls.specs.Calls.{auditOf}
+use Rattle.service.specs.Agrees.{openings, sameCalibrations, journalAgrees, agrees}
+use Rattle.service.specs.Calls.{auditOf}
 use Rattle.agreement.specs.Model.{Model, setupOf}
 use Rattle.agreement.specs.Runs.{State}
 use Rattle.agreement.specs.Agreement.{Agree}
@@ -33,6 +40,12 @@ pub record Invariant (x : State) (b : Model) : Type 0 where
 pub opening-at : (d : Sonde) (s : ℕ) → IsSensor s → ofSensor (openings d) s ≡ setupAt d s .active .calibration
 unfolding openings
 opening-at d = sensor-cases (λ s. ofSensor (openings d) s ≡ setupAt d s .active .calibration) refl refl refl refl
+
+-- each of a list of valid entries is a sensor's
+entry-at : (es : List Entry) → every validEntry es ≡ true → (k : ℕ) (e : Entry) → k < length es → IsSensor (getD es k e .sensor)
+entry-at [] v k e l = absurd (omega arith)
+entry-at (n ∷ es) v zero e l = entry-sensor n (both (validEntry n) (every validEntry es) v .0)
+entry-at (n ∷ es) v (suc k) e l = entry-at es (both (validEntry n) (every validEntry es) v .1) k e (omega arith)
 
 module _ {x : State} {b : Model} (h : Invariant x b) where
   -- ---- number 4 isn't due
@@ -71,7 +84,10 @@ module _ {x : State} {b : Model} (h : Invariant x b) where
         words = h .holds .words;
         chains = chain-is;
         once = λ s k. rw (chain-is s k) (indices-ascend 0 s (b .journal .entries));
-        own = λ i s e l k. rw (chain-is s k) (rw zero-add at (indices-member 0 i s (b .journal .entries) e l));
+        own = λ i e l. (
+          entry-at (b .journal .entries) (h .holds .well-formed .entries-valid) i e l,
+          λ s k. rw (chain-is s k) (rw zero-add at (indices-member 0 i s (b .journal .entries) e l)),
+        );
         ends = λ s f k l. rw (chain-is s k, h .holds .words) (chain-ends (b .journal) (h .holds .free) s f k l);
         followed = h .followed;
         replayed = replay-same;

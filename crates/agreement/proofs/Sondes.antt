@@ -21,10 +21,11 @@ use Rattle.sensors.specs.declared.Setup.{Setup}
 use Rattle.sensors.specs.declared.Sensor.{Sensor}
 use Rattle.sensors.proofs.Setups.{SetupFits, valid-setup-parts, valid-sensor-parts, powered-valid, powered-fits, fresh-fits, fresh-sensor-valid}
 use Rattle.sensors.proofs.Changed.{measured-valid}
-use Rattle.state.specs.Sonde.{sonde, freshSonde, noSensor, sensorAt, setupAt, withSensor, withSetup, measuredAt, addressValid, validSonde}
+use Rattle.state.specs.Sonde.{sonde, freshSonde, poweredSensor, poweredSonde, noSensor, sensorAt, setupAt, withSensor, withSetup, measuredAt, countedBy, addressValid, validSonde}
 use Rattle.state.specs.declared.Counters.{Counters}
+use Rattle.state.specs.declared.Event.{Event}
 use Rattle.state.specs.declared.Sonde.{Sonde}
-use Rattle.calls.specs.Calls.{rawsFinite, poweredSensor, poweredFrom}
+use Rattle.service.specs.Calls.{rawsFinite}
 use Rattle.agreement.specs.Model.{setupOf, freshSetups, poweredSetups}
 
 -- sensor s beside its setup in the book
@@ -119,9 +120,9 @@ module _ {d : Sonde} {address : ℕ} {ys : List Setup} (m : Matches d address ys
   setup-fits s k = m .each s k .fits
 
   -- the counters don't matter
-  pub counted : (c : Counters) → Matches (sonde (d .address) (d .sensors) c) address ys
-  unfolding sensorAt
-  counted c =
+  pub counted : (e : Event) → Matches (countedBy e d) address ys
+  unfolding countedBy sensorAt
+  counted e =
       record { address-is = m .address-is; address-valid = m .address-valid; four-sensors = m .four-sensors; four-setups = m .four-setups; each = m .each }
 
   -- a sensor and its setup in the book replaced
@@ -168,8 +169,8 @@ module _ {d : Sonde} {address : ℕ} {ys : List Setup} (m : Matches d address ys
 
   -- a power-up from a volume whose replay is the calibrations in force
   pub powered-up : (a : ℕ) (w : List ℕ) → addressValid a ≡ true → ((s : ℕ) → IsSensor s → replayOf w s ≡ setupAt d s .active .calibration)
-      → Matches (poweredFrom a (replays w)) a (poweredSetups ys)
-  unfolding replays poweredFrom poweredSetups setupOf
+      → Matches (poweredSonde a (replays w)) a (poweredSetups ys)
+  unfolding replays poweredSonde poweredSetups setupOf
   powered-up a w v r = of-four a _ v (one 1 (omega arith)) (one 2 (omega arith)) (one 3 (omega arith)) (one 4 (omega arith))
     where
       one : (s : ℕ) → IsSensor s → SensorMatches s (poweredSensor s (replayOf w s)) (poweredSetup s (getD ys (s - 1) (noSensor .setup) .active .calibration))

@@ -8,14 +8,14 @@ use Rattle.agreement.specs.Model.{Model, modelStart}
 use Rattle.agreement.specs.Runs.{Call, State, run, numbers, modelRun}
 use Rattle.agreement.specs.Runs.Call.{Frame, Measure, PowerUp, Begin}
 use Rattle.agreement.specs.Accepted.{acceptedFrom}
-use Rattle.agreement.specs.Agreement.{NoListParts}
+use Rattle.agreement.specs.Agreement.{JournalConsistency}
 use Rattle.agreement.proofs.Invariant.{Invariant, agree}
 use Rattle.agreement.proofs.Calls.{Keeps, measure-keeps, power-up-keeps, begin-keeps, start-invariant}
 use Rattle.agreement.proofs.Frames.{frame-keeps}
 
 -- each call
 keeps : {x : State} {b : Model} → Invariant x b → (c : Call) → Keeps x b c
-keeps h (Frame frame reply clock) = frame-keeps h frame reply clock
+keeps h (Frame frame reply a) = frame-keeps h frame reply a
 keeps h (Measure s present raw1 raw2) = measure-keeps h s present raw1 raw2
 keeps h (PowerUp address) = power-up-keeps h address
 keeps h (Begin w) = begin-keeps h w
@@ -34,7 +34,7 @@ run-accepted h [] = refl
 run-accepted h (c ∷ cs) = rw (← (keeps h c .entries)) (run-accepted (keeps h c .invariant) cs)
 
 -- after a fresh and a begin that aren't refused, whatever the calls and their arguments
-pub agreement : NoListParts
+pub agreement : JournalConsistency
 unfolding modelStart
 agreement address words f g calls =
     let h = start-invariant address words f g in

@@ -1,13 +1,14 @@
 -- The write of a field is judged the same on the sonde and on the book, and what comes of it keeps the invariant and adds the entries of
 -- accepted calibrations. Assumes nothing.
 use mathlib.Core.Path.{_≡_, refl, sym, ap, _∙_}
-use mathlib.Core.Bool.{Bool, true, false, _&&_, _||_, cond}
-use mathlib.Core.List.{List, [], _∷_, _++_}
-use Prim.Native.Nat.{ℕ, _-_, _<_, _≤_}
-use native.Mathlib.Omega.{arith}
+use mathlib.Core.Bool.{Bool, true, false, _||_, cond}
+use mathlib.Core.List.{List, [], _++_, append-nil}
+use Prim.Native.Nat.{ℕ, _≤_}
 use lib.Dec.{eqb, ltb}
-use lib.ListN.{length, set}
-use borrow.Author.Tests.{eqb-true, eq-eqb, ne-eqb, ltb-true, ltb-false}
+use lib.ListN.{length}
+use borrow.Author.Tests.{eqb-true, ltb-true, ltb-false}
+use Rattle.modbus.specs.declared.Header.{Header}
+use Rattle.modbus.specs.declared.Value.{Value}
 use Rattle.floats.proofs.Bools.{no}
 use Rattle.coefficients.specs.declared.Calibration.{Calibration}
 use Rattle.parameters.specs.Parameters.{parameterPart}
@@ -15,31 +16,30 @@ use Rattle.entries.specs.Entries.{replacedBy}
 use Rattle.entries.specs.declared.Entry.{Entry}
 use Rattle.fields.specs.declared.Field.{Field}
 use Rattle.fields.proofs.Computed.{other}
-use Rattle.journal.specs.Journal.{Journal, IsSensor, ofSensor, on, latest, appended}
-use Rattle.journal.specs.Stores.{appendOf}
+use Rattle.journal.specs.Journal.{IsSensor, ofSensor, on, latest}
+use Rattle.journal.specs.Stores.{appendsOf, spareIn}
 use Rattle.journal.proofs.Holds.{Holds, holds-used, append-holds}
 use Rattle.journal.proofs.Replay.{latest-snoc}
-use Rattle.sensors.specs.Sensors.{validSetup, freshSample}
+use Rattle.sensors.specs.Sensors.{freshSample}
 use Rattle.sensors.specs.declared.Setup.{Setup}
 use Rattle.sensors.specs.declared.Sample.{Sample}
 use Rattle.sensors.specs.declared.Sensor.{Sensor}
-use Rattle.sensors.proofs.Setups.{SetupFits}
 use Rattle.registers.specs.Registers.{parameterRegister, sensorRegister}
-use Rattle.commands.specs.Commands.{codeOf}
+use Rattle.commands.specs.Commands.{setupAfter, entriesOf}
+use Rattle.commands.specs.declared.Context.{Context}
 use Rattle.writes.specs.Writes.{writeOf}
-use Rattle.commands.specs.declared.Written.{Written}
-use Rattle.commands.specs.declared.Written.the-variants.{Refused, Stored, Updated}
-use Rattle.writes.proofs.Outcomes.{Code, mode-off, not-listed, not-accepted, journal-full}
-use Rattle.writes.proofs.Laws.{write-valid, write-fits, stored-active, codes}
+use Rattle.writes.proofs.Laws.{Journalled, nothing, entry, after-valid, after-fits, journalled}
 use Rattle.writes.proofs.Rows.{settled, written-part}
-use Rattle.writes.proofs.Updates.{Update, update-facts, update-valid, update-fits, update-entry-valid, update-entry-fits, update-method, update-stores-none}
+use Rattle.writes.proofs.Updates.{entries-told}
+use Rattle.plans.specs.declared.Plan.the-variants.{Writing}
 use Rattle.plans.proofs.Plans.{Located}
-use Rattle.state.specs.Sonde.{sonde, sensorAt, setupAt, withSetup, countedGood, countedException}
-use Rattle.state.specs.declared.Counters.{Counters}
-use Rattle.calls.specs.Frame.{Outcome, refusal, confirmation, spareIn, writeAt, carried, maskedWord}
-use Rattle.agreement.specs.Model.{Model, model, setupOf, hasRoom, writeIn, maskedIn, modelWithSetup, kept}
+use Rattle.state.specs.Sonde.{sensorAt, setupAt, countedBy}
+use Rattle.state.specs.declared.Event.{Event}
+use Rattle.service.specs.Frame.{firstWord, secondWord, Answer, answer, contextOf, writtenBy, writeAt, carried}
+use Rattle.service.specs.declared.Arrival.{Arrival}
+use Rattle.agreement.specs.Model.{Model, setupOf, hasRoom, writeIn, extended, kept}
 use Rattle.agreement.specs.Runs.{State, state}
-use Rattle.agreement.specs.Accepted.{calibrated}
+use Rattle.agreement.specs.Accepted.{acceptedIn}
 use Rattle.agreement.proofs.Sondes.{setup-replaced, setup-same, setup-valid, setup-fits, counted, with-setup}
 use Rattle.agreement.proofs.Invariant.{Invariant}
 
@@ -76,128 +76,95 @@ module _ {x : State} {b : Model} (h : Invariant x b) where
   spare-same = rw (holds-used (x .volume) (b .journal) (h .holds), h .holds .capacity-is)
 
   -- the write of a field
-  pub write-same : (clock s : ℕ) (f : Field) (high low : ℕ) → IsSensor s → writeIn b clock s f high low ≡ writeAt (x .sonde) (x .volume) clock s f high low
-  unfolding writeAt writeIn
-  write-same clock s f high low k = rw (setup-same (h .matches) s k, spare-same)
-
-  -- what a mask makes of the old word
-  pub masked-same : (s : ℕ) (f : Field) (a o : ℕ) {count : ℕ} → Located count s f → maskedIn b s f a o ≡ maskedWord (x .sonde) s f a o
-  unfolding maskedIn maskedWord
-  masked-same s f a o l =
-      rw (unmeasured s (sensorAt (x .sonde) s) freshSample (f .offset) (written-part (l .register) f (l .field) (l .writable)), h .matches .each s (l .is-sensor) .setup-is)
+  write-same : (a : Arrival) (s : ℕ) (f : Field) (v : Value) → Located (f .words) s f → writeIn b a s f v ≡ writeAt (x .sonde) (x .volume) a s f v
+  unfolding writeIn writtenBy
+  write-same a s f v l =
+      rw (
+        unmeasured s (sensorAt (x .sonde) s) freshSample (f .offset) (written-part (l .register) f (l .field) (l .writable)),
+        h .matches .each s (l .is-sensor) .setup-is,
+        spare-same,
+      )
 
 -- ---- what comes of it
 
--- what a frame leaves that no number refuses: the invariant, and an entry more where the frame calibrates sensor k
-pub record Answered (x : State) (b : Model) (o : Outcome) (c : Model) (k : ℕ) : Type 0 where
-  pub no-number : o .number ≡ 0
-  pub invariant : Invariant (state (o .sonde) (o .volume)) c
-  pub entries : c .journal .entries ≡ cond (eqb k 0) (b .journal .entries) (b .journal .entries ++ (calibrated (x .sonde) (o .sonde) k ∷ []))
-
--- a code that refuses isn't 0
-code-nonzero : {code : ℕ} → Code code → eqb code 0 ≡ false
-code-nonzero mode-off = refl
-code-nonzero not-listed = refl
-code-nonzero not-accepted = refl
-code-nonzero journal-full = refl
+-- what an answer leaves, once it is counted, keeps the invariant, and the book has these entries more
+pub record Answered (b : Model) (o : Answer) (c : Model) (es : List Entry) : Type 0 where
+  pub invariant : Invariant (state (countedBy (o .event) (o .sonde)) (o .volume)) c
+  pub entries : c .journal .entries ≡ b .journal .entries ++ es
 
 module _ {x : State} {b : Model} (h : Invariant x b) where
-  -- the counters don't matter
-  pub counted-keeps : (c : Counters) → Invariant (state (sonde (x .sonde .address) (x .sonde .sensors) c) (x .volume)) b
-  counted-keeps c = record { matches = counted (h .matches) c; holds = h .holds; followed = h .followed }
-
-  -- a frame that is refused by code
-  pub refused-keeps : (body : List ℕ) (code : ℕ) → Invariant (state (refusal (x .sonde) body code .sonde) (x .volume)) b
-  unfolding refusal countedException
-  refused-keeps body code = counted-keeps _
+  -- an answer that leaves the sonde and the volume: the counters don't matter
+  pub counted-keeps : (event : Event) (body : List ℕ) → Answered b (answer event body (x .sonde) (x .volume)) b []
+  counted-keeps event body =
+      record { invariant = record { matches = counted (h .matches) event; holds = h .holds; followed = h .followed }; entries = sym (append-nil _) }
 
   module _ (s : ℕ) (k : IsSensor s) where
-    -- a setup stored in sensor s, and the journal that the volume then holds
-    stored-keeps : (body : List ℕ) (y : Setup) → validSetup s y ≡ true → SetupFits y → (w : List ℕ) (j : Journal) → Holds w j
-        → ((t : ℕ) → IsSensor t → latest t (ofSensor (j .opening) t) (j .entries) ≡ (cond (eqb t s) y (setupOf (b .setups) t)) .active .calibration)
-        → Invariant (state (confirmation (withSetup (x .sonde) s y) body .sonde) w) (model (b .address) (set (b .setups) (s - 1) y) j)
-    unfolding confirmation countedGood
-    stored-keeps body y v f w j g r =
+    abbrev old : Setup
+    old = setupAt (x .sonde) s
+
+    -- the calibration of sensor t, where sensor s has the setup y
+    abbrev inForce : Setup → ℕ → Calibration
+    inForce y t = (cond (eqb t s) y (setupOf (b .setups) t)) .active .calibration
+
+    -- the volume holds the journal with entries more, and this comes to what is in force
+    record Recorded (y : Setup) (es : List Entry) : Type 0 where
+      holds : Holds (appendsOf (x .volume) es) (extended (b .journal) es)
+      followed : (t : ℕ) → IsSensor t → latest t (ofSensor (b .journal .opening) t) (b .journal .entries ++ es) ≡ inForce y t
+
+    -- so it is with what a write journals: nothing, or one entry
+    recorded : (a : Arrival) {y : Setup} {code : ℕ} {es : List Entry} → Journalled s old y (contextOf (x .volume) a) code es → Recorded y es
+    unfolding hasRoom on
+    recorded a {y} (nothing e) = record { holds = rw append-nil (h .holds); followed = λ t l. rw append-nil (h .followed t l ∙ go t (eqb t s) refl) }
+      where
+        go : (t : ℕ) (p : Bool) → eqb t s ≡ p → setupOf (b .setups) t .active .calibration ≡ (cond p y (setupOf (b .setups) t)) .active .calibration
+        go t true q = rw (eqb-true t s q, ← (setup-same (h .matches) s k)) (sym e)
+        go t false q = refl
+    recorded a {y} (entry e c r n u v f) =
         record {
-          matches = counted (with-setup (h .matches) s k y v f) _;
-          holds = g;
-          followed = λ t l. rw (setup-replaced (b .setups) s t y (h .matches .four-setups) k l) (r t l);
+          holds =
+              append-holds (x .volume) (b .journal) e (h .holds) (v (setup-valid (h .matches) s k)) (f (setup-fits (h .matches) s k))
+              (ltb-true (length (b .journal .entries)) (b .journal .capacity) (sym (spare-same h) ∙ r));
+          followed = λ t l. latest-snoc t (ofSensor (b .journal .opening) t) (b .journal .entries) e ∙ rw (ap (eqb t) n) (go t l (eqb t s) refl);
         }
+      where
+        before : ℕ → Calibration
+        before t = latest t (ofSensor (b .journal .opening) t) (b .journal .entries)
 
-    module _ (f : Field) (high low clock : ℕ) (body reply : List ℕ) where
-      abbrev old : Setup
-      old = setupAt (x .sonde) s
+        go : (t : ℕ) → IsSensor t → (p : Bool) → eqb t s ≡ p
+            → cond p (replacedBy (before t) e) (before t) ≡ (cond p y (setupOf (b .setups) t)) .active .calibration
+        go t l true q = ap (λ (c : Calibration). replacedBy c e) (h .followed t l ∙ rw (eqb-true t s q, ← (setup-same (h .matches) s k))) ∙ u
+        go t l false q = h .followed t l
 
-      abbrev spare : Bool
-      spare = spareIn (x .volume)
+  -- the write of a field, whatever comes of it
+  pub write-keeps : (a : Arrival) (hd : Header) (body : List ℕ) (s : ℕ) (f : Field) (v : Value) → Located (f .words) s f
+      → Answered b (carried (x .sonde) hd body (x .volume) s (writeAt (x .sonde) (x .volume) a s f v)) (kept b s (writeIn b a s f v))
+      (acceptedIn (x .sonde) (contextOf (x .volume) a) (Writing s f v))
+  unfolding carried writtenBy setupAt
+  write-keeps a hd body s f v l =
+      rw (write-same h a s f v l, ← (setup-same (h .matches) s k))
+      (record {
+        invariant = record {
+          matches = counted (with-setup (h .matches) s k _ (after-valid s y f high low c (setup-valid (h .matches) s k)) (after-fits s y f high low c (setup-fits (h .matches) s k))) _;
+          holds = r .holds;
+          followed = λ t j. rw (setup-replaced (b .setups) s t _ (h .matches .four-setups) k j) (r .followed t j);
+        };
+        entries = ap (λ (es : List Entry). b .journal .entries ++ es) (entries-told s y f high low c);
+      })
+    where
+      k : IsSensor s
+      k = l .is-sensor
 
-      -- a value stored leaves what is in force
-      store-keeps : (y : Setup) → writeOf s old f high low clock spare ≡ Stored y
-          → Answered x b (carried (x .sonde) body reply (x .volume) s (Stored y)) (modelWithSetup b s y) (cond (eqb (f .offset) 5 && eqb high 0xE001) s 0)
-      unfolding modelWithSetup
-      store-keeps y e =
-          rw (no-update (eqb (f .offset) 5) (eqb high 0xE001) refl refl)
-          (record {
-            no-number = refl;
-            invariant =
-                stored-keeps body y (write-valid s old f high low clock spare y (setup-valid (h .matches) s k) e)
-                (write-fits s old f high low clock spare y (setup-fits (h .matches) s k) e) (x .volume) (b .journal) (h .holds)
-                (λ t l. h .followed t l ∙ in-force t (eqb t s) refl);
-            entries = refl;
-          })
-        where
-          no-update : (p q : Bool) → eqb (f .offset) 5 ≡ p → eqb high 0xE001 ≡ q → (p && q) ≡ false
-          no-update true true o u = absurd (update-stores-none s old f low clock spare y (eqb-true (f .offset) 5 o) (rw (eqb-true high 0xE001 u) at e))
-          no-update true false o u = refl
-          no-update false q o u = refl
+      y : Setup
+      y = setupAt (x .sonde) s
 
-          in-force : (t : ℕ) (p : Bool) → eqb t s ≡ p → setupOf (b .setups) t .active .calibration ≡ (cond p y (setupOf (b .setups) t)) .active .calibration
-          in-force t true q = rw (eqb-true t s q, ← (setup-same (h .matches) s k)) (sym (stored-active s old f high low clock spare y e))
-          in-force t false q = refl
+      high : ℕ
+      high = firstWord (sensorRegister s (sensorAt (x .sonde) s) (f .offset)) v
 
-      -- an update adds its entry, which is that of an accepted calibration
-      update-keeps : (y : Setup) (n : Entry) → writeOf s old f high low clock spare ≡ Updated y n
-          → Answered x b (carried (x .sonde) body reply (x .volume) s (Updated y n)) (kept b s (Updated y n)) (cond (eqb (f .offset) 5 && eqb high 0xE001) s 0)
-      unfolding hasRoom on calibrated
-      update-keeps y n e =
-          rw (eq-eqb (f .offset) 5 (u .is-command), eq-eqb high 0xE001 (u .is-update))
-          (record { no-number = refl; invariant = after; entries = rw (ne-eqb s 0 (λ z. omega arith)) (ap (λ (d : Entry). b .journal .entries ++ (d ∷ [])) entry-is) })
-        where
-          u : Update s old f high clock spare y n
-          u = update-facts s old f high low clock spare y n e
+      low : ℕ
+      low = secondWord v
 
-          room : length (b .journal .entries) < b .journal .capacity
-          room = ltb-true (length (b .journal .entries)) (b .journal .capacity) (sym (spare-same h) ∙ u .has-room)
+      c : Context
+      c = contextOf (x .volume) a
 
-          before : ℕ → Calibration
-          before t = latest t (ofSensor (b .journal .opening) t) (b .journal .entries)
-
-          in-force : (t : ℕ) → IsSensor t → (p : Bool) → eqb t s ≡ p
-              → cond p (replacedBy (before t) n) (before t) ≡ (cond p y (setupOf (b .setups) t)) .active .calibration
-          in-force t l true q =
-              ap (λ (c : Calibration). replacedBy c n) (h .followed t l ∙ rw (eqb-true t s q, ← (setup-same (h .matches) s k))) ∙ u .replaced
-          in-force t l false q = h .followed t l
-
-          after : Invariant (state (confirmation (withSetup (x .sonde) s y) body .sonde) (appendOf (x .volume) n))
-              (model (b .address) (set (b .setups) (s - 1) y) (appended (b .journal) n))
-          after =
-              stored-keeps body y (update-valid s old f high low clock spare y n (setup-valid (h .matches) s k) e)
-              (update-fits s old f high low clock spare y n (setup-fits (h .matches) s k) e) (appendOf (x .volume) n) (appended (b .journal) n)
-              (append-holds (x .volume) (b .journal) n (h .holds) (update-entry-valid s old f high low clock spare y n (setup-valid (h .matches) s k) e)
-              (update-entry-fits s old f high low clock spare y n (setup-fits (h .matches) s k) e) room)
-              (λ t l. latest-snoc t (ofSensor (b .journal .opening) t) (b .journal .entries) n ∙ rw (ap (eqb t) (u .sensor-is)) (in-force t l (eqb t s) refl))
-
-          new-is : setupAt (confirmation (withSetup (x .sonde) s y) body .sonde) s ≡ y
-          new-is = setup-same (after .matches) s k ∙ setup-replaced (b .setups) s s y (h .matches .four-setups) k k ∙ rw (eq-eqb s s refl)
-
-          entry-is : n ≡ calibrated (x .sonde) (confirmation (withSetup (x .sonde) s y) body .sonde) s
-          entry-is = rw (new-is, u .sensor-is, update-method s old f high low clock spare y n (setup-valid (h .matches) s k) e, ← (u .journalled), u .points-are)
-
-      -- whatever the write comes to
-      pub written-keeps : (w : Written) → writeAt (x .sonde) (x .volume) clock s f high low ≡ w
-          → Answered x b (carried (x .sonde) body reply (x .volume) s w) (kept b s w) (cond (eqb (codeOf w) 0) (cond (eqb (f .offset) 5 && eqb high 0xE001) s 0) 0)
-      unfolding writeAt
-      written-keeps (Refused code) e =
-          rw (code-nonzero (codes s old f high low clock spare code e)) (record { no-number = refl; invariant = refused-keeps body code; entries = refl })
-      written-keeps (Stored y) e = store-keeps y e
-      written-keeps (Updated y n) e = update-keeps y n e
+      r : Recorded s k (setupAfter y (writeOf s y f high low c)) (entriesOf (writeOf s y f high low c))
+      r = recorded s k a (journalled s y f high low c)

@@ -1,59 +1,46 @@
--- Accepted calibrations, told from the frames and the sonde alone. Document 01, "Calibration": "An accepted calibration is a frame that counts
--- good, own address or 0, that writes 0xE001 to a command register and meets no refusal below, whether or not a reply is sent."
--- Assumes nothing.
+-- Accepted calibrations, told from the calls' arguments, the sonde before each call, how many were accepted since the last begin and the length
+-- of the volume: no word of a volume is read, and nothing that a frame leaves goes into its entry. Document 01, "Calibration": "An accepted
+-- calibration is a frame that counts good, own address or 0, that writes 0xE001 to a command register and meets no refusal below, whether or
+-- not a reply is sent." Assumes nothing.
 use mathlib.Core.Bool.{_&&_, cond}
 use mathlib.Core.List.{List, [], _∷_, _++_}
-use Prim.Native.Nat.{ℕ}
-use lib.Dec.{eqb}
-use Rattle.rtu.specs.Frame.{isGood, bodyOf}
-use Rattle.methods.specs.Methods.{pointsOf}
+use lib.Dec.{eqb, ltb}
+use lib.ListN.{length}
 use Rattle.entries.specs.declared.Entry.{Entry}
-use Rattle.commands.specs.Commands.{methodSet}
-use Rattle.plans.specs.Plans.{planOf}
+use Rattle.journal.specs.Words.{capacityOf}
+use Rattle.registers.specs.Registers.{sensorRegister}
+use Rattle.commands.specs.Commands.{context, acceptedUpdate}
+use Rattle.commands.specs.declared.Context.{Context}
 use Rattle.plans.specs.declared.Plan.{Plan}
-use Rattle.plans.specs.declared.Plan.the-variants.{Foreign, BroadcastRead, Refused, Reading, Writing, Masking}
-use Rattle.state.specs.Sonde.{setupAt}
+use Rattle.plans.specs.declared.Plan.the-variants.{Bad, Foreign, BroadcastRead, Refused, Reading, Writing}
+use Rattle.state.specs.Sonde.{sensorAt, setupAt}
 use Rattle.state.specs.declared.Sonde.{Sonde}
-use Rattle.calls.specs.Calls.{beginOf}
-use Rattle.calls.specs.Frame.{maskedWord, codeBy}
-use Rattle.agreement.specs.Runs.{Call, State, frameIn, after}
+use Rattle.service.specs.Calls.{beginOf}
+use Rattle.service.specs.Frame.{planFor, firstWord}
+use Rattle.service.specs.declared.Arrival.{Arrival}
+use Rattle.agreement.specs.Runs.{Call, State, after}
 use Rattle.agreement.specs.Runs.Call.{Frame, Measure, PowerUp, Begin}
 
--- the sensor whose command register gets 0xE001 ("5 command"), by functions 6 and 16 or by a mask; 0 for none. A plan is for the sonde's own
--- address or 0.
-abbrev pub updatedBy : Sonde → Plan → ℕ
-updatedBy d Foreign = 0
-updatedBy d BroadcastRead = 0
-updatedBy d (Refused code) = 0
-updatedBy d (Reading start count) = 0
-updatedBy d (Writing s f high low) = cond (eqb (f .offset) 5 && eqb high 0xE001) s 0
-updatedBy d (Masking s f a b) = cond (eqb (f .offset) 5 && eqb (maskedWord d s f a b) 0xE001) s 0
+-- the entry of what a frame asks for, if it is accepted: 0xE001 to a command register ("5 command"), by functions 6 and 16 or by a mask, in
+-- mode, of an accepted candidate, with an entry spare. A plan to write is of a frame that counts good, for the sonde's own address or 0.
+abbrev pub acceptedIn : Sonde → Context → Plan → List Entry
+acceptedIn d c Bad = []
+acceptedIn d c Foreign = []
+acceptedIn d c BroadcastRead = []
+acceptedIn d c (Refused code) = []
+acceptedIn d c (Reading start count) = []
+acceptedIn d c (Writing s f v) =
+    cond (eqb (f .offset) 5 && eqb (firstWord (sensorRegister s (sensorAt d s) (f .offset)) v) 0xE001) (acceptedUpdate s (setupAt d s) c) []
 
-abbrev pub planIn : State → List ℕ → Plan
-planIn x frame = planOf (x .sonde .address) (bodyOf frame)
+-- what an update takes from outside the setup: an entry is spare where fewer were accepted than the volume's length has room for
+abbrev pub contextAfter : List Entry → State → Arrival → Context
+contextAfter es x a = context (a .clock) (ltb (length es) (capacityOf (length (x .volume))))
 
--- the sensor that a frame calibrates, 0 for none: no number and no code refuses it
-unfoldable pub calibrates : State → List ℕ → List ℕ → ℕ → ℕ
-calibrates x frame reply clock =
-    cond (eqb (frameIn x frame reply clock .number) 0 && isGood frame && eqb (codeBy (x .sonde) (x .volume) clock (planIn x frame)) 0)
-    (updatedBy (x .sonde) (planIn x frame))
-    0
-
--- what an entry says of it: the method and the points that were set, and what is in force since
-unfoldable pub calibrated : Sonde → Sonde → ℕ → Entry
-calibrated before now s =
-    record {
-      sensor = s;
-      method = setupAt before s .procedure .method;
-      calibration = setupAt now s .active .calibration;
-      points = pointsOf (methodSet (setupAt before s));
-    }
-
--- the accepted calibrations since the last begin, one call later
+-- the accepted calibrations since the last begin, one call later. Number 3 refuses a frame by its reply buffer's length; number 4 isn't asked
+-- for, since no call gives it. A begin that isn't refused starts anew.
 unfoldable pub noted : List Entry → State → Call → List Entry
-noted es x (Frame frame reply clock) =
-    cond (eqb (calibrates x frame reply clock) 0) es
-    (es ++ (calibrated (x .sonde) (after x (Frame frame reply clock) .sonde) (calibrates x frame reply clock) ∷ []))
+noted es x (Frame frame reply a) =
+    cond (ltb (length reply) 256) es (es ++ acceptedIn (x .sonde) (contextAfter es x a) (planFor (x .sonde .address) frame))
 noted es x (Measure s present raw1 raw2) = es
 noted es x (PowerUp address) = es
 noted es x (Begin w) = cond (eqb (beginOf (x .sonde) w .number) 0) [] es

@@ -13,7 +13,7 @@ use Rattle.journal.specs.Layout.{layout}
 use Rattle.journal.specs.Valid.{chain, chainOf, member}
 use Rattle.journal.specs.Replay.{replayOf}
 use Rattle.state.specs.Sonde.{setupAt}
-use Rattle.calls.specs.Calls.{freshOf, beginOf, auditOf}
+use Rattle.service.specs.Calls.{freshOf, beginOf, auditOf}
 use Rattle.agreement.specs.Model.{Model, setupOf, modelStart}
 use Rattle.agreement.specs.Runs.{Call, State, run, numbers, start, modelRun}
 use Rattle.agreement.specs.Accepted.{acceptedFrom}
@@ -28,9 +28,10 @@ pub record Agree (x : State) (b : Model) : Type 0 where
   pub chains : (s : ℕ) → IsSensor s → chainOf (x .volume) s ≡ indicesFrom 0 s (b .journal .entries)
   -- each entry stands once: no index comes twice on a chain,
   pub once : (s : ℕ) → IsSensor s → ascends 0 (chainOf (x .volume) s) ≡ true
-  -- and the entry with index k + 1 is on its own sensor's chain and on no other
-  pub own : (k s : ℕ) (e : Entry) → k < length (b .journal .entries) → IsSensor s
-      → member (suc k) (chainOf (x .volume) s) ≡ on s (getD (b .journal .entries) k e)
+  -- and the entry with index k + 1 is on the chain of its own sensor, which is 1, 2, 3 or 4, and on no other
+  pub own : (k : ℕ) (e : Entry) → k < length (b .journal .entries)
+      → IsSensor (getD (b .journal .entries) k e .sensor)
+      × ((s : ℕ) → IsSensor s → member (suc k) (chainOf (x .volume) s) ≡ on s (getD (b .journal .entries) k e))
   -- every chain ends: however many steps are allowed beyond the entries, no more are met
   pub ends : (s f : ℕ) → IsSensor s → length (b .journal .entries) ≤ f → chain f (x .volume) (getD (x .volume) (3 + s) 0) ≡ chainOf (x .volume) s
   -- the opening followed by the chain gives the figures in force and the last calibration, the book's
@@ -59,7 +60,7 @@ pub record Agreement (address : ℕ) (words : List ℕ) (calls : List Call) : Ty
 
 -- Demand 3: "No list of calls parts the journal from the figures in force". The only assumptions are that the first fresh and the first begin
 -- weren't refused; the arguments of all calls are any values.
-abbrev pub NoListParts : Type 0
-NoListParts =
+abbrev pub JournalConsistency : Type 0
+JournalConsistency =
     (address : ℕ) (words : List ℕ) → freshOf address .number ≡ 0 → beginOf (freshOf address .sonde) words .number ≡ 0 → (calls : List Call)
     → Agreement address words calls

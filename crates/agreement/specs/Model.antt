@@ -1,26 +1,25 @@
 -- The control book: document 01's third book, which is fed the calls' arguments and neither the sonde nor any volume's words. Document 01,
 -- "Control book". Assumes nothing.
 use mathlib.Core.Bool.{Bool, cond}
-use mathlib.Core.List.{List, [], _∷_}
+use mathlib.Core.List.{List, [], _∷_, _++_}
 use Prim.Native.Nat.{ℕ, _-_}
 use lib.Dec.{ltb}
 use lib.ListN.{length, getD, set}
-use Rattle.words.specs.Mask.{maskedOf}
-use Rattle.rtu.specs.Frame.{isGood, bodyOf}
+use Rattle.modbus.specs.declared.Value.{Value}
+use Rattle.entries.specs.declared.Entry.{Entry}
 use Rattle.fields.specs.declared.Field.{Field}
 use Rattle.journal.specs.declared.Calibrations.{Calibrations}
-use Rattle.journal.specs.Journal.{Journal, bySensor, appended}
+use Rattle.journal.specs.Journal.{Journal, bySensor}
 use Rattle.journal.specs.Stores.{newJournal}
 use Rattle.sensors.specs.Sensors.{freshSetup, poweredSetup, freshSample}
 use Rattle.sensors.specs.declared.Setup.{Setup}
-use Rattle.registers.specs.Registers.{sensorRegister}
-use Rattle.writes.specs.Writes.{writeOf}
+use Rattle.commands.specs.Commands.{context, setupAfter, entriesOf}
 use Rattle.commands.specs.declared.Written.{Written}
-use Rattle.commands.specs.declared.Written.the-variants.{Refused as RefusedBy, Stored, Updated}
-use Rattle.plans.specs.Plans.{planOf}
 use Rattle.plans.specs.declared.Plan.{Plan}
-use Rattle.plans.specs.declared.Plan.the-variants.{Foreign, BroadcastRead, Refused, Reading, Writing, Masking}
+use Rattle.plans.specs.declared.Plan.the-variants.{Bad, Foreign, BroadcastRead, Refused, Reading, Writing}
 use Rattle.state.specs.Sonde.{noSensor, addressValid}
+use Rattle.service.specs.Frame.{planFor, writtenBy}
+use Rattle.service.specs.declared.Arrival.{Arrival}
 
 -- "It keeps the address; every value that frames write, trial figures, method and points among them; each sensor's mode, figures in force and
 -- last calibration; capacity; opening; a list of entries": four setups, and the journal as a record of facts
@@ -75,34 +74,29 @@ modelPowerUp b address = cond (addressValid address) (model address (poweredSetu
 unfoldable pub hasRoom : Journal → Bool
 hasRoom j = ltb (length (j .entries)) (j .capacity)
 
--- the field's write, "judged by this paper's rules on the book's own values"
-unfoldable pub writeIn : Model → ℕ → ℕ → Field → ℕ → ℕ → Written
-writeIn b clock s f high low = writeOf s (setupOf (b .setups) s) f high low clock (hasRoom (b .journal))
+-- the field's write, "judged by this paper's rules on the book's own values". Old, for a mask, is what a sensor that was never measured
+-- shows: a field that a mask can write shows a setup's word and no measurement
+unfoldable pub writeIn : Model → Arrival → ℕ → Field → Value → Written
+writeIn b a s f v = writtenBy s (record { setup = setupOf (b .setups) s; sample = freshSample }) f v (context (a .clock) (hasRoom (b .journal)))
 
--- what a mask makes of the word that the book has: a field that a mask can write shows a setup's word and no measurement
-unfoldable pub maskedIn : Model → ℕ → Field → ℕ → ℕ → ℕ
-maskedIn b s f andMask orMask =
-    maskedOf (sensorRegister s (record { setup = setupOf (b .setups) s; sample = freshSample }) (f .offset)) andMask orMask
+-- a journal with entries more, "at the end of the list"
+abbrev pub extended : Journal → List Entry → Journal
+extended j es = record { capacity = j .capacity; opening = j .opening; entries = j .entries ++ es }
 
-unfoldable pub modelWithSetup : Model → ℕ → Setup → Model
-modelWithSetup b s x = model (b .address) (set (b .setups) (s - 1) x) (b .journal)
-
--- "A write that meets no refusal is carried out on these, and an update adds its entry at the end of the list"
+-- "A write that meets no refusal is carried out on these, and an update adds its entry at the end of the list"; one that is refused leaves
+-- its sensor's setup and adds none
 abbrev pub kept : Model → ℕ → Written → Model
-kept b s (RefusedBy code) = b
-kept b s (Stored x) = modelWithSetup b s x
-kept b s (Updated x e) = model (b .address) (set (b .setups) (s - 1) x) (appended (b .journal) e)
+kept b s x = model (b .address) (set (b .setups) (s - 1) (setupAfter (setupOf (b .setups) s) x)) (extended (b .journal) (entriesOf x))
 
--- "a frame that is .. another's or a read: nothing"
-abbrev pub modelPlanned : Model → ℕ → Plan → Model
-modelPlanned b clock Foreign = b
-modelPlanned b clock BroadcastRead = b
-modelPlanned b clock (Refused code) = b
-modelPlanned b clock (Reading start count) = b
-modelPlanned b clock (Writing s f high low) = kept b s (writeIn b clock s f high low)
-modelPlanned b clock (Masking s f andMask orMask) = kept b s (writeIn b clock s f (maskedIn b s f andMask orMask) 0)
+-- "a frame that is bad, another's or a read: nothing"
+abbrev pub modelPlanned : Model → Arrival → Plan → Model
+modelPlanned b a Bad = b
+modelPlanned b a Foreign = b
+modelPlanned b a BroadcastRead = b
+modelPlanned b a (Refused code) = b
+modelPlanned b a (Reading start count) = b
+modelPlanned b a (Writing s f v) = kept b s (writeIn b a s f v)
 
--- of the reply buffer the length alone: number 3 refuses. "A frame that is bad ..: nothing". "Number 4 isn't tried".
-unfoldable pub modelFrame : Model → List ℕ → ℕ → ℕ → Model
-modelFrame b frame room clock =
-    cond (ltb room 256) b (cond (isGood frame) (modelPlanned b clock (planOf (b .address) (bodyOf frame))) b)
+-- of the reply buffer the length alone: number 3 refuses. "Number 4 isn't tried".
+unfoldable pub modelFrame : Model → List ℕ → ℕ → Arrival → Model
+modelFrame b frame room a = cond (ltb room 256) b (modelPlanned b a (planFor (b .address) frame))

@@ -7,14 +7,15 @@ use lib.Dec.{eqb}
 use lib.Ieee.{Float}
 use lib.ListN.{length}
 use Rattle.state.specs.declared.Sonde.{Sonde}
-use Rattle.calls.specs.Calls.{freshOf, beginOf, powerUpOf, measureOf}
-use Rattle.calls.specs.Frame.{Outcome, frameOf}
+use Rattle.service.specs.Calls.{freshOf, beginOf, powerUpOf, measureOf}
+use Rattle.service.specs.Frame.{Outcome, frameOf}
+use Rattle.service.specs.declared.Arrival.{Arrival}
 use Rattle.agreement.specs.Model.{Model, modelBegin, modelPowerUp, modelFrame}
 
 -- a call with its arguments: any values of their types, NaN, infinities and hostile words included
 pub data Call : Type 0 where
-  -- bytes, reply buffer, clock
-  Frame : List ℕ → List ℕ → ℕ → Call
+  -- bytes, reply buffer, when and how it came
+  Frame : List ℕ → List ℕ → Arrival → Call
   -- sensor, present, two raws
   Measure : ℕ → Bool → Float → Float → Call
   -- address
@@ -31,12 +32,12 @@ pub record State : Type 0 where
 abbrev pub state : Sonde → List ℕ → State
 state d w = record { sonde = d; volume = w }
 
-abbrev pub frameIn : State → List ℕ → List ℕ → ℕ → Outcome
-frameIn x frame reply clock = frameOf (x .sonde) frame reply (x .volume) clock
+abbrev pub frameIn : State → List ℕ → List ℕ → Arrival → Outcome
+frameIn x frame reply a = frameOf (x .sonde) frame reply (x .volume) a
 
 -- the number that a call gives
 unfoldable pub numberOf : State → Call → ℕ
-numberOf x (Frame frame reply clock) = frameIn x frame reply clock .number
+numberOf x (Frame frame reply a) = frameIn x frame reply a .number
 numberOf x (Measure s present raw1 raw2) = measureOf (x .sonde) s present raw1 raw2 .number
 numberOf x (PowerUp address) = powerUpOf address (x .volume) .number
 numberOf x (Begin w) = beginOf (x .sonde) w .number
@@ -44,10 +45,10 @@ numberOf x (Begin w) = beginOf (x .sonde) w .number
 -- what a call leaves: "The sonde goes in and comes back by value". A refused power-up "doesn't count as made: the sonde before it goes on", and
 -- a new volume that is refused isn't taken.
 unfoldable pub after : State → Call → State
-after x (Frame frame reply clock) = state (frameIn x frame reply clock .sonde) (frameIn x frame reply clock .volume)
+after x (Frame frame reply a) = state (frameIn x frame reply a .sonde) (frameIn x frame reply a .volume)
 after x (Measure s present raw1 raw2) = state (measureOf (x .sonde) s present raw1 raw2 .sonde) (x .volume)
 after x (PowerUp address) = cond (eqb (powerUpOf address (x .volume) .number) 0) (state (powerUpOf address (x .volume) .sonde) (x .volume)) x
-after x (Begin w) = cond (eqb (beginOf (x .sonde) w .number) 0) (state (x .sonde) (beginOf (x .sonde) w .volume)) x
+after x (Begin w) = cond (eqb (beginOf (x .sonde) w .number) 0) (state (beginOf (x .sonde) w .sonde) (beginOf (x .sonde) w .volume)) x
 
 abbrev pub run : State → List Call → State
 run x [] = x
@@ -60,13 +61,13 @@ numbers x (c ∷ cs) = numberOf x c ∷ numbers (after x c) cs
 
 -- the first fresh and the first begin
 unfoldable pub start : ℕ → List ℕ → State
-start address w = state (freshOf address .sonde) (beginOf (freshOf address .sonde) w .volume)
+start address w = state (beginOf (freshOf address .sonde) w .sonde) (beginOf (freshOf address .sonde) w .volume)
 
 -- ---- the control book
 
 -- "Measure: nothing"; "a begin gives its volume's length", a frame of its reply buffer the length
 unfoldable pub modelAfter : Model → Call → Model
-modelAfter b (Frame frame reply clock) = modelFrame b frame (length reply) clock
+modelAfter b (Frame frame reply a) = modelFrame b frame (length reply) a
 modelAfter b (Measure s present raw1 raw2) = b
 modelAfter b (PowerUp address) = modelPowerUp b address
 modelAfter b (Begin w) = modelBegin b (length w)

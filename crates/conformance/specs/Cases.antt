@@ -1,5 +1,5 @@
--- The starred cases of document 01, "Entries to test by", in its order, as statements about the definitions that the contracts cite.
--- Assumes nothing.
+-- Document 01's starred cases, "Entries to test by", in its order, as statements about the definitions that the contracts cite. Assumes
+-- nothing.
 use mathlib.Core.Path.{_≡_}
 use mathlib.Core.List.{List, [], _∷_}
 use Prim.Native.Nat.{ℕ}
@@ -16,8 +16,8 @@ use Rattle.methods.specs.declared.Verdict.{Verdict}
 use Rattle.methods.specs.declared.Verdict.the-variants.{Accepted, OutsideLimits, NotFinite, Undefined}
 use Rattle.state.specs.Sonde.{freshSonde}
 use Rattle.state.specs.declared.Sonde.{Sonde}
-use Rattle.calls.specs.Calls.{Begun, beginOf}
-use Rattle.calls.specs.Frame.{Outcome, frameOf}
+use Rattle.service.specs.Calls.{Begun, beginOf}
+use Rattle.service.specs.Frame.{Outcome, arrival, frameOf}
 
 -- the bits of coefficients
 abbrev pub bits : Coefficients → List ℕ
@@ -50,7 +50,7 @@ beginTold b = b .number ∷ getD (b .volume) 1 0 ∷ []
 
 -- a frame at clock 7 for a sonde and its volume, and one more for what it leaves
 unfoldable pub asked : Sonde → List ℕ → List ℕ → Outcome
-asked d volume frame = frameOf d frame (replicate 256 0) volume 7
+asked d volume frame = frameOf d frame (replicate 256 0) volume (arrival 7)
 
 unfoldable pub next : Outcome → List ℕ → Outcome
 next o frame = asked (o .sonde) (o .volume) frame
@@ -73,7 +73,7 @@ masked = 0x01 ∷ 0x16 ∷ 0x00 ∷ 0x69 ∷ 0x00 ∷ 0x00 ∷ 0xE0 ∷ 0x01 ∷
 unfoldable pub inMode : Outcome
 inMode = asked (freshSonde 1) (begunWith 88 .volume) modeOn
 
-pub record Starred : Type 0 where
+pub record Cases : Type 0 where
   -- "CRC of "123456789" is 0x4B37"
   pub crc-of-digits : crcOf (0x31 ∷ 0x32 ∷ 0x33 ∷ 0x34 ∷ 0x35 ∷ 0x36 ∷ 0x37 ∷ 0x38 ∷ 0x39 ∷ []) ≡ 0x4B37
   -- "Points (10, 21), (2, 5): 1 and 2"

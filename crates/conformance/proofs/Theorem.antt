@@ -1,18 +1,18 @@
--- All starred cases hold, by computation on the definitions. Assumes nothing.
+-- All of document 01's starred cases hold, by computation on the definitions. Assumes nothing.
 use mathlib.Core.Path.{refl}
-use lib.Ieee.{ofBits, toBits, round, sub, mul, div, le, eq}
+use lib.Ieee.{ofBits, toBits, sub, mul, div, le}
 use Rattle.words.specs.Mask.{maskedOf}
 use Rattle.rtu.specs.Crc.{crcBit, crcBits, crcByte, crcFrom, crcOf}
 use Rattle.rtu.specs.Frame.{checksumOf, framed, bodyOf, isGood, overlay}
 use Rattle.modbus.specs.Request.{writeOneOf, writeMaskOf, requestOf}
-use Rattle.replies.specs.Reply.{markedOf, exceptionBody, echoReply, exceptionReply}
+use Rattle.replies.specs.Reply.{writtenBody, markedOf, exceptionBody, replyOf}
 use Rattle.floats.specs.Floats.{near, nearMinus, finite, floatOf, highWord, lowWord, sameBits, isPlusZero}
 use Rattle.coefficients.specs.Coefficients.{allFinite, sameCoefficients, sameCalibration, defaultsOf, inLimits}
 use Rattle.methods.specs.Methods.{methodOf, candidateOf, verdictOf, judgedOf}
 use Rattle.entries.specs.Entries.{validCalibration, methodAllowed, pointsFinite, samePoints, validEntry, replacedBy}
 use Rattle.journal.specs.Words.{capacityOf, entryWords, numberAt, floatAt, entryAt}
 use Rattle.journal.specs.Layout.{header}
-use Rattle.journal.specs.Stores.{beginWords, storesOf, appendOf}
+use Rattle.journal.specs.Stores.{beginWords, storesOf, appendOf, spareIn}
 use Rattle.journal.specs.Valid.{validHeader, openingAt, validOpenings, validEntryAt, chainOf, validLink, validChain, validChains, validEntries, valid}
 use Rattle.journal.specs.Replay.{replayOf, replays}
 use Rattle.parameters.specs.Parameters.{idOf, defaultUnits, unitsAllowed, levelAllowed}
@@ -23,26 +23,26 @@ use Rattle.registers.specs.Registers.{modeOf, headRegister, sensorRegister}
 use Rattle.commands.specs.Commands.{updated, commanded}
 use Rattle.writes.specs.Writes.{fieldWritten, writeOf}
 use Rattle.plans.specs.Plans.{targetOf, planOf}
-use Rattle.state.specs.Sonde.{incremented, freshCounters, goodCounted, exceptionCounted, freshSonde, sensorAt, setupAt, withSensor, withSetup, countedGood, countedException, addressValid, validSonde}
-use Rattle.calls.specs.Agrees.{openings, sameCalibrations, journalAgrees, agrees}
-use Rattle.calls.specs.Calls.{beginOf}
-use Rattle.calls.specs.Frame.{sent, refusal, writtenReply, confirmation, spareIn, writeAt, maskedWord, admitted, frameOf}
-use Rattle.starred.specs.Starred.{Starred, worked, told, begunWith, beginTold, asked, next, frameTold, inMode}
+use Rattle.state.specs.Sonde.{freshSonde, sensorAt, setupAt, withSensor, withSetup, countedBy, addressValid, validSonde}
+use Rattle.service.specs.Agrees.{openings, sameCalibrations, journalAgrees, agrees}
+use Rattle.service.specs.Calls.{beginOf}
+use Rattle.service.specs.Frame.{planFor, sent, writeBody, writtenBy, carried, answerOf, left, frameOf}
+use Rattle.conformance.specs.Cases.{Cases, worked, told, begunWith, beginTold, asked, next, frameTold, inMode}
 
-pub starred : Starred
+pub cases : Cases
 unfolding crcBit crcBits crcByte crcFrom crcOf checksumOf framed bodyOf isGood overlay
-    writeOneOf writeMaskOf requestOf maskedOf markedOf exceptionBody echoReply exceptionReply
-    ofBits toBits round sub mul div le eq near nearMinus finite floatOf highWord lowWord sameBits isPlusZero
+    writeOneOf writeMaskOf requestOf maskedOf writtenBody markedOf exceptionBody
+    ofBits toBits sub mul div le near nearMinus finite floatOf highWord lowWord sameBits isPlusZero
     allFinite sameCoefficients sameCalibration defaultsOf inLimits methodOf candidateOf verdictOf judgedOf
-    methodAllowed pointsFinite samePoints validEntry replacedBy capacityOf entryWords numberAt floatAt entryAt validCalibration header beginWords storesOf appendOf
+    methodAllowed pointsFinite samePoints validEntry replacedBy capacityOf entryWords numberAt floatAt entryAt validCalibration header beginWords storesOf appendOf spareIn
     validHeader openingAt validOpenings validEntryAt chainOf validLink validChain validChains validEntries valid replayOf replays
     idOf defaultUnits unitsAllowed levelAllowed ownerBit owns holds exactly fieldAt wholeField spanOf
     newProcedure freshParameter freshParameters freshSetup freshSensor unitsValid levelValid validParameter validParameters validProcedure validSetup validSensor restarted calibratedAt sensorWithSetup
     modeOf headRegister sensorRegister updated commanded fieldWritten writeOf targetOf planOf
-    incremented freshCounters goodCounted exceptionCounted freshSonde sensorAt setupAt withSensor withSetup countedGood countedException addressValid validSonde
-    openings sameCalibrations journalAgrees agrees beginOf sent refusal writtenReply confirmation spareIn writeAt maskedWord admitted frameOf
+    freshSonde sensorAt setupAt withSensor withSetup countedBy addressValid validSonde
+    openings sameCalibrations journalAgrees agrees beginOf planFor sent writeBody writtenBy carried answerOf replyOf left frameOf
     worked told begunWith beginTold asked next frameTold inMode
-starred =
+cases =
     record {
       crc-of-digits = refl;
       two-points = refl;
