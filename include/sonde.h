@@ -10,7 +10,8 @@
  *     uint16_t volume[24064];
  *     uint8_t reply[SONDE_REPLY_BYTES];
  *     SondeMade made = sonde_fresh(1);
- *     if (made.number != SONDE_OK || sonde_begin(made.sonde, volume, 24064) != SONDE_OK) { ... }
+ *     if (made.number == SONDE_OK) made = sonde_begin(made.sonde, volume, 24064);
+ *     if (made.number != SONDE_OK) { ... }
  *     Sonde sonde = made.sonde;
  *     for (;;) {
  *         size_t n = next_frame(bytes);                 the host cuts frames by silence
@@ -102,10 +103,10 @@ typedef struct { uint8_t number; uint16_t entries; } SondeAudit;
 SondeMade sonde_fresh(uint8_t address);
 
 /*
- * Begins a journal in a volume: words 0..63 are written, with the calibrations in force as its opening; the others stay. The sonde goes on
- * unchanged. Refused by 2, then 4 (the sonde alone is looked at); the volume then stays as it was.
+ * Begins a journal in a volume: words 0..63 are written, with the calibrations in force as its opening; the others stay. The sonde comes back
+ * unchanged, refused or not. Refused by 2, then 4 (the sonde alone is looked at); the volume then stays as it was.
  */
-uint8_t sonde_begin(Sonde sonde, uint16_t *volume, size_t words);
+SondeMade sonde_begin(Sonde sonde, uint16_t *volume, size_t words);
 
 /*
  * The sonde after a power cut: the calibrations that the volume's journal gives, all else as fresh. Refused by 1, then 4 (the volume alone is

@@ -60,8 +60,10 @@ int main(void) {
     check(sonde_fresh(0).number == SONDE_BAD_ADDRESS, "fresh at address 0: number 1");
     SondeMade made = sonde_fresh(17);
     check(made.number == SONDE_OK && made.sonde.address == 17, "fresh at address 17");
-    check(sonde_begin(made.sonde, volume, 87) == SONDE_SHORT_VOLUME, "begin with 87 words: number 2");
-    check(sonde_begin(made.sonde, volume, WORDS) == SONDE_OK && volume[0] == 1 && volume[1] == 3 && volume[2] == 0, "begin with 136 words");
+    made = sonde_begin(made.sonde, volume, 87);
+    check(made.number == SONDE_SHORT_VOLUME && made.sonde.address == 17, "begin with 87 words: number 2, and the sonde comes back");
+    made = sonde_begin(made.sonde, volume, WORDS);
+    check(made.number == SONDE_OK && volume[0] == 1 && volume[1] == 3 && volume[2] == 0, "begin with 136 words");
     Sonde s = made.sonde;
 
     /* Sensor 2: mode on, method 2, the points (8, 9) and (0, 0), update. Slope 1.125 (0x3F900000), offset 0. */

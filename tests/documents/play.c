@@ -32,7 +32,8 @@ int main(int count, char **arguments) {
         return 2;
     }
     SondeMade made = sonde_fresh(1);
-    if (made.number != SONDE_OK || sonde_begin(made.sonde, volume, WORDS) != SONDE_OK) return 2;
+    if (made.number == SONDE_OK) made = sonde_begin(made.sonde, volume, WORDS);
+    if (made.number != SONDE_OK) return 2;
     Sonde sonde = made.sonde;
     uint32_t clock = 0;
     size_t length = 0, played = 0;

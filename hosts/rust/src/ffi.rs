@@ -126,7 +126,7 @@ pub struct Audit {
 
 extern "C" {
     pub fn sonde_fresh(address: u8) -> Made;
-    pub fn sonde_begin(sonde: Sonde, volume: *mut u16, words: usize) -> u8;
+    pub fn sonde_begin(sonde: Sonde, volume: *mut u16, words: usize) -> Made;
     pub fn sonde_power_up(address: u8, volume: *const u16, words: usize) -> Made;
     pub fn sonde_measure(sonde: Sonde, sensor: u8, present: bool, raw1: f32, raw2: f32) -> Made;
     pub fn sonde_frame(

@@ -99,7 +99,8 @@ impl Sonde {
         done(made.number).map(|()| Sonde(made.sonde))
     }
 
-    /// Begins a journal in a volume, with the calibrations in force as its opening. Words from 64 on stay as they are.
+    /// Begins a journal in a volume, with the calibrations in force as its opening. Words from 64 on stay as they are, and so does the sonde:
+    /// the library is proved to hand it back unchanged, refused or not.
     ///
     /// ```
     /// use sonde::{Error, Sonde};
@@ -111,7 +112,8 @@ impl Sonde {
     /// ```
     pub fn begin(&self, volume: &mut [u16]) -> Result<(), Error> {
         // SAFETY: the slice is valid for its length and lent for the call.
-        done(unsafe { ffi::sonde_begin(self.0, volume.as_mut_ptr(), volume.len()) })
+        let made = unsafe { ffi::sonde_begin(self.0, volume.as_mut_ptr(), volume.len()) };
+        done(made.number)
     }
 
     /// The sonde after a power cut: the calibrations that the volume's journal gives, all else as fresh.

@@ -194,9 +194,11 @@ fn registers(sonde: ffi::Sonde, start: u16, count: u16) -> Vec<u16> {
     let frame = [&body[..], &crc(&body).to_le_bytes()].concat();
     // SAFETY: each pointer is of an array, with its length.
     let answer = unsafe {
-        assert_eq!(ffi::sonde_begin(sonde, volume.as_mut_ptr(), volume.len()), 0);
+        let begun = ffi::sonde_begin(sonde, volume.as_mut_ptr(), volume.len());
+        assert_eq!(begun.number, 0);
+        assert_eq!(format!("{:?}", begun.sonde), format!("{sonde:?}"));
         ffi::sonde_frame(
-            sonde,
+            begun.sonde,
             frame.as_ptr(),
             frame.len(),
             reply.as_mut_ptr(),

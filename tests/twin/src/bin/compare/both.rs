@@ -160,9 +160,10 @@ impl Comparison {
                 make(both, twin, library)
             }
             Call::Begin { words } => {
-                let twin = twin::begin(twin, &mut twin_volume[..words]);
-                let library = library::begin(*library, &mut library_volume[..words]);
-                agree(Answer::new(twin, 0), Answer::new(library, 0))
+                let number = twin::begin(twin, &mut twin_volume[..words]);
+                let made = library::begin(*library, &mut library_volume[..words]);
+                *library = made.sonde;
+                agree(Answer::new(number, 0), Answer::new(made.number, 0))
             }
             Call::Measure {
                 sensor,

@@ -7,7 +7,7 @@ pub fn fresh(address: u8) -> Made {
     unsafe { ffi::sonde_fresh(address) }
 }
 
-pub fn begin(sonde: Sonde, volume: &mut [u16]) -> u8 {
+pub fn begin(sonde: Sonde, volume: &mut [u16]) -> Made {
     unsafe { ffi::sonde_begin(sonde, volume.as_mut_ptr(), volume.len()) }
 }
 
