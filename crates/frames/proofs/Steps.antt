@@ -1,15 +1,13 @@
 -- The code's steps leave what the definition of the frame call says; a reply's body is short enough for a frame, and what is changed is a
 -- sensor's. Assumes nothing.
-use mathlib.Core.Path.{_≡_, refl, ap}
-use mathlib.Core.Bool.{Bool, true, false, cond}
+use mathlib.Core.Path.{_≡_, refl}
 use mathlib.Core.List.{List, []}
-use Prim.Native.Nat.{ℕ, _+_, _*_, _/_, _%_, _≤_}
+use Prim.Native.Nat.{ℕ, _/_, _%_, _≤_}
 use native.Mathlib.Omega.{arith}
 use lib.Dec.{eqb, lit≤}
 use lib.ListN.{length, take}
 use lib.Seq.{length-take-le}
 use Rattle.floats.proofs.Bools.{choose}
-use Rattle.words.specs.Bytes.{bytesOf}
 use Rattle.words.proofs.Bytes.{bytes-length}
 use Rattle.rtu.specs.Frame.{bodyOf, isGood}
 use Rattle.rtu.proofs.RoundTrip.{body-length, good-most}

@@ -20,7 +20,6 @@ use Rattle.service.specs.Frame.{Answer, planFor, answerOf, outcome, refusedBy, 
 use Rattle.service.specs.declared.Arrival.{Arrival}
 use Rattle.service.proofs.Parts.{frame-facts}
 use Rattle.execution.specs.Steps.{Step}
-use Rattle.execution.specs.declared.Change.{Change}
 use Rattle.execution.specs.declared.Change.the-variants.{Nothing, Setup as Changed}
 use Rattle.admission.specs.Steps.{numberBy, ownerOf}
 use Rattle.frames.specs.Steps.{stepFor, servedOf, changed}

@@ -1,7 +1,6 @@
 -- Assumes nothing.
 use borrow.Author.Tests.{le-ltb, lt-ltb}
 use Rattle.admission.specs.Steps.{numberBy}
-use borrow.Author.Needs.{needs}
 use Rattle.admission.proofs.number_of.Statement.{statement}
 use Rattle.admission.proofs.number_of.Tie as tie
 

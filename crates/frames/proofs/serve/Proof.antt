@@ -1,7 +1,7 @@
 -- The body that stands in the buffer gets its framing; all else is the step's. Assumes nothing.
-use mathlib.Core.Path.{_≡_, refl, sym, ap, _∙_}
+use mathlib.Core.Path.{_≡_, refl, ap, _∙_}
 use mathlib.Core.List.{List}
-use Prim.Native.Nat.{ℕ, _+_, _≤_}
+use Prim.Native.Nat.{ℕ, _≤_}
 use native.Mathlib.Omega.{arith}
 use lib.ListN.{length, take}
 use Rattle.rtu.specs.Frame.{bodyOf, overlay}
@@ -13,7 +13,6 @@ use Rattle.service.specs.Frame.{planFor}
 use Rattle.service.proofs.Parts.{frame-facts}
 use Rattle.modbus.specs.Request.{headerOf}
 use Rattle.execution.specs.Steps.{Step, effectOf}
-use Rattle.execution.specs.declared.Effect.{Effect}
 use Rattle.admission.specs.Steps.{judgedOf}
 use Rattle.frames.specs.Steps.{stepOf, stepFor}
 use Rattle.admission.specs.declared.Judged.{Judged}
