@@ -1,5 +1,4 @@
--- The code's steps leave what the definition of the frame call says; a reply's body is short enough for a frame, and what is changed is a
--- sensor's. Assumes nothing.
+-- The code's steps leave what the definition of the frame call says, and a reply's body is short enough for a frame. Assumes nothing.
 use mathlib.Core.Path.{_≡_, refl}
 use mathlib.Core.List.{List, []}
 use Prim.Native.Nat.{ℕ, _/_, _%_, _≤_}

@@ -23,6 +23,7 @@ use Rattle.execution.specs.declared.Change.{Change}
 use Rattle.execution.specs.declared.Change.the-variants.{Nothing, Setup}
 use Rattle.frames.specs.declared.Served.{Served}
 
+-- what comes of a plan; own is the sonde's address, s the sensor that the plan names
 abbrev pub stepOf : ℕ → Counters → Sensor → Header → List ℕ → List ℕ → Arrival → Plan → Step
 stepOf own c s h body w a Bad = step CountedBad [] Nothing w
 stepOf own c s h body w a Foreign = step Uncounted [] Nothing w
