@@ -3,8 +3,6 @@
 
 pub mod framing;
 pub mod line;
-pub mod options;
-pub mod raws;
 pub mod sensors;
 pub mod server;
 pub mod sys;

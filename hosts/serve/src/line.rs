@@ -1,6 +1,7 @@
 //! The line: a serial device, or a pseudo-terminal that clients open as one.
 
-use crate::sys::{self, Event, Parity, Wish};
+use crate::sys::{self, Event, Wish};
+use serve_options::Parity;
 use std::fs::{File, OpenOptions};
 use std::io::{self, ErrorKind, Read, Write};
 use std::os::unix::fs::OpenOptionsExt;

@@ -1,7 +1,7 @@
 //! The simulated sensors: raw values from the command line, or from a file that may change while the server runs.
 
-use crate::raws::Raws;
 use crate::say;
+use serve_options::Raws;
 use sonde::Sonde;
 use std::fs::File;
 use std::io::Read;

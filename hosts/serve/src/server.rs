@@ -2,15 +2,18 @@
 
 use crate::framing::{silence, Framer};
 use crate::line::{Line, PATIENCE};
-use crate::options::Options;
 use crate::say;
 use crate::sensors::Sensors;
 use crate::sys::{self, Event};
 use crate::volume::VolumeFile;
+use serve_options::Options;
 use sonde::{Sonde, REPLY_BYTES};
 use std::fs::File;
 use std::io::Write;
 use std::time::{Duration, SystemTime};
+
+/// Entries that a volume can have at most.
+const MOST_ENTRIES: usize = 1000;
 
 /// Serves until a signal stops it.
 pub fn serve(options: &Options) -> Result<(), String> {
@@ -69,7 +72,7 @@ struct Server {
 
 impl Server {
     fn new(options: &Options, sensors: Sensors) -> Result<Server, String> {
-        let (volume, sonde) = VolumeFile::open(&options.volume, options.address, options.entries)?;
+        let (volume, sonde) = VolumeFile::open(&options.volume, options.address, options.entries.unwrap_or(MOST_ENTRIES))?;
         Ok(Server {
             sonde,
             volume,

@@ -5,7 +5,7 @@ mod events;
 mod terminal;
 
 pub use events::{stop_signals, wait, Event, Wish};
-pub use terminal::{drop_input, open_pty, set_raw, Parity, LINE_FLAGS};
+pub use terminal::{drop_input, open_pty, set_raw, LINE_FLAGS};
 
 use std::ffi::c_int;
 use std::io;

@@ -1,6 +1,7 @@
 //! Pseudo-terminals and the settings of a line.
 
 use super::done;
+use serve_options::Parity;
 use std::ffi::{c_char, c_int, c_uint, CStr, OsStr};
 use std::fs::File;
 use std::io;
@@ -61,14 +62,6 @@ pub fn open_pty() -> io::Result<(File, PathBuf)> {
             error => Err(io::Error::from_raw_os_error(error)),
         }
     }
-}
-
-/// With a parity 1 stop bit, without one 2: a character has 11 bits in any case, as the standard wants.
-#[derive(Clone, Copy, Debug, PartialEq)]
-pub enum Parity {
-    None,
-    Even,
-    Odd,
 }
 
 /// Bytes as they are, 8 bits each, at this speed. A byte with a wrong parity is read as zero, so that the checksum refuses it.

@@ -15,7 +15,7 @@ fn options(words: &str) -> Options {
 fn without_options_the_defaults_hold() {
     let o = options("");
     assert_eq!((o.device, o.speed, o.parity, o.silence), (None, 19200, Parity::Even, None));
-    assert_eq!((o.address, o.volume, o.entries), (1, PathBuf::from("sonde.volume"), 1000));
+    assert_eq!((o.address, o.volume, o.entries), (1, PathBuf::from("sonde.volume"), None));
     assert_eq!((o.raws, o.raws_file, o.clock, o.verbose), (Raws::default(), None, None, false));
 }
 
@@ -27,7 +27,10 @@ fn every_option_is_taken() {
         (Some(PathBuf::from("/dev/ttyUSB0")), 9600, Parity::None)
     );
     assert_eq!(o.silence, Some(Duration::from_millis(20)));
-    assert_eq!((o.address, o.volume, o.entries, o.verbose), (247, PathBuf::from("v"), 3, true));
+    assert_eq!(
+        (o.address, o.volume, o.entries, o.verbose),
+        (247, PathBuf::from("v"), Some(3), true)
+    );
 
     let o = options("--raws r --clock 4294967295 --raw 2=7.5 --raw 4=absent --parity odd");
     assert_eq!(
@@ -39,9 +42,35 @@ fn every_option_is_taken() {
 }
 
 #[test]
+fn options_of_lines_and_volumes() {
+    let o = options("");
+    assert_eq!((o.link, o.echo, o.rs485, o.new_volume), (None, false, None, None));
+    let o = options("--link l --echo --new-volume n");
+    assert_eq!(
+        (o.link, o.echo, o.new_volume),
+        (Some(PathBuf::from("l")), true, Some(PathBuf::from("n")))
+    );
+    assert_eq!(options("--device d --rs485 high").rs485, Some(Rts::High));
+    assert_eq!(options("--rs485 low --device d").rs485, Some(Rts::Low));
+}
+
+#[test]
+fn check_stands_alone() {
+    assert!(matches!(parsed("--check v"), Ok(Command::Check(path)) if path == PathBuf::from("v")));
+    for (words, message) in [
+        ("--check", "--check wants a value"),
+        ("--check v --verbose", "--check FILE stands alone"),
+        ("--verbose --check v", "--check FILE stands alone"),
+    ] {
+        assert_eq!(parsed(words).unwrap_err(), message, "{words}");
+    }
+}
+
+#[test]
 fn help_goes_before_what_follows_it() {
     assert!(matches!(parsed("--help"), Ok(Command::Help)));
     assert!(matches!(parsed("--verbose -h --bogus"), Ok(Command::Help)));
+    assert!(matches!(parsed("--version --bogus"), Ok(Command::Version)));
 }
 
 #[test]
@@ -62,6 +91,9 @@ fn wrong_words_are_named() {
         ("--clock 4294967296", "from 0 to 4294967295"),
         ("--clock -1", "from 0 to 4294967295"),
         ("--raw 5=1", "--raw 5=1: the sensors are 1 to 4"),
+        ("--device d --rs485 1", "--rs485 1: it is high or low"),
+        ("--rs485 high", "--rs485 is for a --device"),
+        ("--link l --device d", "--link names a pseudo-terminal, and --device is none"),
     ] {
         let said = parsed(words).unwrap_err();
         assert!(said.contains(message), "{words}: {said}");
