@@ -104,8 +104,13 @@ pub fn parse(words: impl IntoIterator<Item = OsString>) -> Result<Command, Strin
         match name {
             "--help" | "-h" => return Ok(Command::Help),
             "--version" => return Ok(Command::Version),
-            "--check" if words.len() <= 2 => return Ok(Command::Check(value(name, rest.next())?.into())),
-            "--check" => return Err("--check FILE stands alone".to_string()),
+            "--check" => {
+                let file = value(name, rest.next())?;
+                let alone = words.len() == 2;
+                return alone
+                    .then(|| Command::Check(file.into()))
+                    .ok_or("--check FILE stands alone".to_string());
+            }
             "--echo" => options.echo = true,
             "--verbose" => options.verbose = true,
             _ => options.set(name, rest.next())?,

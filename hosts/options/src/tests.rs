@@ -61,6 +61,7 @@ fn check_stands_alone() {
         ("--check", "--check wants a value"),
         ("--check v --verbose", "--check FILE stands alone"),
         ("--verbose --check v", "--check FILE stands alone"),
+        ("--verbose --check --bogus", "--check wants a value"),
     ] {
         assert_eq!(parsed(words).unwrap_err(), message, "{words}");
     }

@@ -13,6 +13,11 @@ pub fn silence(speed: u32) -> Duration {
     Duration::from_secs(1) * 77 / (2 * speed)
 }
 
+/// How long so many characters take on the wire.
+pub fn duration(characters: usize, speed: u32) -> Duration {
+    Duration::from_secs(1) * (11 * characters as u32) / speed
+}
+
 /// The bytes since the last silence.
 #[derive(Default)]
 pub struct Framer {
@@ -46,6 +51,12 @@ mod tests {
         assert_eq!(silence(19200), Duration::from_nanos(2_005_208));
         assert_eq!(silence(38400), Duration::from_micros(1750));
         assert_eq!(silence(115200), Duration::from_micros(1750));
+    }
+
+    #[test]
+    fn a_character_has_11_bits() {
+        assert_eq!(duration(8, 300), Duration::from_nanos(293_333_333));
+        assert_eq!(duration(256, 921_600), Duration::from_nanos(3_055_555));
     }
 
     #[test]

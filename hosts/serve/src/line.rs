@@ -1,15 +1,32 @@
 //! The line: a serial device, or a pseudo-terminal that clients open as one.
 
+use crate::echo::{Echo, Heard};
+use crate::framing;
+use crate::link::Link;
+use crate::say;
 use crate::sys::{self, Event, Wish};
-use serve_options::Parity;
-use std::fs::{File, OpenOptions};
+use serve_options::{Options, Parity};
+use std::fs::{File, OpenOptions, TryLockError};
 use std::io::{self, ErrorKind, Read, Write};
 use std::os::unix::fs::OpenOptionsExt;
 use std::path::{Path, PathBuf};
-use std::time::Duration;
+use std::time::{Duration, Instant};
 
 /// How long a line or a client may leave a reply before it is dropped: a master has given up by then.
 pub const PATIENCE: Duration = Duration::from_secs(1);
+/// How long an adapter may hold back the rest of an echo that has begun.
+const HELD_BACK: Duration = Duration::from_millis(100);
+
+/// Whether the line hands back what is sent.
+#[derive(Clone, Copy, PartialEq)]
+enum Echoes {
+    /// It was said so.
+    Yes,
+    /// A device: what equals the reply and comes while it is sent, or in the silence after it, is no client's.
+    Perhaps,
+    /// The server's own pseudo-terminal, which has no wire.
+    No,
+}
 
 pub struct Line {
     /// What a client opens.
@@ -17,37 +34,65 @@ pub struct Line {
     file: File,
     /// The clients' end of a pseudo-terminal. It stays open here, so that the line lives on when a client leaves.
     clients: Option<File>,
+    _link: Option<Link>,
+    speed: u32,
+    /// What ends a frame.
+    pub silence: Duration,
+    echoes: Echoes,
+    /// What was said once already.
+    told: bool,
 }
 
 impl Line {
-    pub fn open(device: Option<&Path>, speed: u32, parity: Parity) -> Result<Line, String> {
-        match device {
-            Some(path) => Line::device(path, speed, parity).map_err(|e| format!("the device {} can't be used: {e}", path.display())),
-            None => Line::pty(speed).map_err(|e| format!("there is no pseudo-terminal to be had: {e}")),
+    pub fn open(options: &Options) -> Result<Line, String> {
+        match &options.device {
+            Some(path) => Line::device(path, options).map_err(|e| format!("the device {} can't be used: {e}", path.display())),
+            None => Line::pty(options),
         }
     }
 
-    fn device(path: &Path, speed: u32, parity: Parity) -> io::Result<Line> {
-        let file = open(path)?;
-        sys::set_raw(&file, speed, parity)?;
-        sys::drop_input(&file)?;
-        Ok(Line {
-            path: path.to_path_buf(),
-            file,
-            clients: None,
-        })
+    fn device(path: &Path, options: &Options) -> Result<Line, String> {
+        let told = |e: io::Error| e.to_string();
+        let file = open_line(path).map_err(told)?;
+        lock(&file)?;
+        sys::set_raw(&file, options.speed, options.parity).map_err(told)?;
+        if let Some(rts) = options.rs485 {
+            sys::set_rs485(&file, rts).map_err(|e| format!("the kernel can't switch its RS-485 driver (--rs485): {e}"))?;
+        }
+        sys::drop_input(&file).map_err(told)?;
+        Ok(Line::new(path.to_path_buf(), file, options))
     }
 
     /// A pseudo-terminal has no parity, and the C library may refuse to set one.
-    fn pty(speed: u32) -> io::Result<Line> {
-        let (file, path) = sys::open_pty()?;
-        let clients = open(&path)?;
-        sys::set_raw(&clients, speed, Parity::None)?;
+    fn pty(options: &Options) -> Result<Line, String> {
+        let told = |e: io::Error| format!("there is no pseudo-terminal to be had: {e}");
+        let (file, path) = sys::open_pty().map_err(told)?;
+        let clients = open_line(&path).map_err(told)?;
+        sys::set_raw(&clients, options.speed, Parity::None).map_err(told)?;
+        let link = options.link.as_ref().map(|link| Link::make(link, &path)).transpose()?;
         Ok(Line {
+            clients: Some(clients),
+            _link: link,
+            ..Line::new(path, file, options)
+        })
+    }
+
+    fn new(path: PathBuf, file: File, options: &Options) -> Line {
+        let echoes = match options.device {
+            _ if options.echo => Echoes::Yes,
+            Some(_) => Echoes::Perhaps,
+            None => Echoes::No,
+        };
+        Line {
             path,
             file,
-            clients: Some(clients),
-        })
+            clients: None,
+            _link: None,
+            speed: options.speed,
+            silence: options.silence.unwrap_or(framing::silence(options.speed)),
+            echoes,
+            told: false,
+        }
     }
 
     /// Waits for bytes, for `stop`, or until the time is over.
@@ -65,8 +110,26 @@ impl Line {
         }
     }
 
-    /// Sends a reply, and hands back whether the line took it all.
-    pub fn send(&mut self, mut reply: &[u8], stop: &File) -> Result<bool, String> {
+    /// Sends a reply, and drops what the line hands back of it. Hands back what came in besides.
+    pub fn send(&mut self, reply: &[u8], stop: &File) -> Result<Vec<u8>, String> {
+        if reply.is_empty() {
+            return Ok(Vec::new());
+        }
+        self.calm()?;
+        let start = Instant::now();
+        if !self.write(reply, stop)? {
+            say("the line doesn't take the reply; it was dropped");
+            return Ok(Vec::new());
+        }
+        if self.echoes == Echoes::No {
+            return Ok(Vec::new());
+        }
+        let end = self.sent(start + framing::duration(reply.len(), self.speed), stop)?;
+        self.drop_echo(reply, end, stop)
+    }
+
+    /// Writes a reply, and hands back whether the line took it all.
+    fn write(&mut self, mut reply: &[u8], stop: &File) -> Result<bool, String> {
         while !reply.is_empty() {
             match self.file.write(reply) {
                 Ok(length) => reply = &reply[length..],
@@ -80,6 +143,63 @@ impl Line {
             }
         }
         Ok(true)
+    }
+
+    /// Waits until a reply has left the device, which isn't before `end` at the line's speed, and hands back when it had.
+    fn sent(&self, end: Instant, stop: &File) -> Result<Instant, String> {
+        let failed = |e| self.failed(e);
+        while sys::unsent(&self.file).map_err(failed)? > 0 && Instant::now() < end + PATIENCE {
+            if sys::stopped(stop, Duration::from_millis(1)).map_err(failed)? {
+                return Ok(end);
+            }
+        }
+        if sys::unsent(&self.file).map_err(failed)? == 0 {
+            sys::drain(&self.file).map_err(failed)?;
+        }
+        Ok(end.max(Instant::now()))
+    }
+
+    /// Drops the echo of a reply whose last bit was sent at `end`.
+    fn drop_echo(&mut self, reply: &[u8], end: Instant, stop: &File) -> Result<Vec<u8>, String> {
+        let mut echo = Echo::of(reply);
+        let mut buffer = [0; 512];
+        let mut until = end + if self.echoes == Echoes::Yes { PATIENCE } else { self.silence };
+        while echo.is_open() {
+            match self.wait(stop, Some(until.saturating_duration_since(Instant::now())))? {
+                Event::Ready => echo.push(self.read(&mut buffer)?),
+                Event::Stop | Event::Timeout => break,
+            }
+            if echo.has_begun() {
+                until = until.max(Instant::now() + HELD_BACK);
+            }
+        }
+        let (heard, rest) = echo.end();
+        self.tell_echo(heard);
+        Ok(rest)
+    }
+
+    fn tell_echo(&mut self, heard: Heard) {
+        let message = match (self.echoes, heard) {
+            (Echoes::Perhaps, Heard::Echo) => "the line hands back what is sent; it is dropped. --echo makes sure of it",
+            (Echoes::Yes, Heard::Nothing) => "the line hands nothing back; it doesn't want --echo",
+            (Echoes::Yes, Heard::Other) => "the line hands back something else than was sent; it is taken for a request",
+            _ => return,
+        };
+        if !self.told {
+            say(message);
+        }
+        self.told = true;
+    }
+
+    /// Switches off the echo of a pseudo-terminal, which a client may have switched on: it would hand back each reply.
+    fn calm(&mut self) -> Result<(), String> {
+        let Some(clients) = &self.clients else { return Ok(()) };
+        let failed = |e| self.failed(e);
+        if sys::has_echo(clients).map_err(failed)? {
+            sys::set_raw(clients, self.speed, Parity::None).map_err(failed)?;
+            say("a client has switched on the pseudo-terminal's echo; it is off again");
+        }
+        Ok(())
     }
 
     /// Drops a reply that no client has read. A wire loses what nobody listens to, but a pseudo-terminal keeps it, and the next client would
@@ -96,6 +216,14 @@ impl Line {
     }
 }
 
-fn open(path: &Path) -> io::Result<File> {
+/// Keeps a second server off, by whatever name it opens the line.
+fn lock(line: &File) -> Result<(), String> {
+    line.try_lock().map_err(|e| match e {
+        TryLockError::WouldBlock => "another server has it".to_string(),
+        TryLockError::Error(e) => format!("it can't be locked: {e}"),
+    })
+}
+
+fn open_line(path: &Path) -> io::Result<File> {
     OpenOptions::new().read(true).write(true).custom_flags(sys::LINE_FLAGS).open(path)
 }

@@ -1,14 +1,13 @@
 //! The simulated sensors: raw values from the command line, or from a file that may change while the server runs.
 
+use crate::files::{open_regular, read_most};
 use crate::say;
 use serve_options::Raws;
 use sonde::Sonde;
-use std::fs::File;
-use std::io::Read;
 use std::path::{Path, PathBuf};
 
 /// More than any list of four sensors needs; a longer file is a wrong one.
-const LONGEST_FILE: u64 = 65536;
+const LONGEST_FILE: usize = 65536;
 
 pub struct Sensors {
     raws: Raws,
@@ -50,11 +49,9 @@ impl Sensors {
 }
 
 fn text_of(file: &Path) -> Result<String, String> {
-    let mut text = String::new();
-    let read = File::open(file).and_then(|f| f.take(LONGEST_FILE + 1).read_to_string(&mut text));
-    match read {
-        Err(e) => Err(e.to_string()),
-        Ok(length) if length as u64 > LONGEST_FILE => Err("it is too long".to_string()),
-        Ok(_) => Ok(text),
+    let bytes = read_most(&open_regular(file)?, LONGEST_FILE + 1).map_err(|e| e.to_string())?;
+    match bytes.len() {
+        length if length > LONGEST_FILE => Err("it is too long".to_string()),
+        _ => String::from_utf8(bytes).map_err(|_| "it isn't UTF-8".to_string()),
     }
 }

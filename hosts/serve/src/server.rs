@@ -1,6 +1,7 @@
 //! The loop: cut a frame, let the library answer it, keep the volume safe, send the reply.
 
-use crate::framing::{silence, Framer};
+use crate::date;
+use crate::framing::Framer;
 use crate::line::{Line, PATIENCE};
 use crate::say;
 use crate::sensors::Sensors;
@@ -10,30 +11,27 @@ use serve_options::Options;
 use sonde::{Sonde, REPLY_BYTES};
 use std::fs::File;
 use std::io::Write;
-use std::time::{Duration, SystemTime};
-
-/// Entries that a volume can have at most.
-const MOST_ENTRIES: usize = 1000;
+use std::time::SystemTime;
 
 /// Serves until a signal stops it.
 pub fn serve(options: &Options) -> Result<(), String> {
     let stop = sys::stop_signals().map_err(|e| format!("signals can't be caught: {e}"))?;
     let sensors = Sensors::new(options.raws, options.raws_file.as_deref())?;
-    let line = Line::open(options.device.as_deref(), options.speed, options.parity)?;
+    let line = Line::open(options)?;
     let server = Server::new(options, sensors)?;
     announce(&line)?;
-    exchange(server, line, &stop, options.silence.unwrap_or(silence(options.speed)))
+    exchange(server, line, &stop)
 }
 
 /// Answers frame after frame until `stop` can be read.
-fn exchange(mut server: Server, mut line: Line, stop: &File, silence: Duration) -> Result<(), String> {
+fn exchange(mut server: Server, mut line: Line, stop: &File) -> Result<(), String> {
     let mut framer = Framer::default();
     let mut replied = false;
     let mut buffer = [0; 512];
     loop {
         let timeout = match framer.is_empty() {
             true => replied.then_some(PATIENCE),
-            false => Some(silence),
+            false => Some(line.silence),
         };
         match line.wait(stop, timeout)? {
             Event::Stop => return Ok(()),
@@ -45,9 +43,7 @@ fn exchange(mut server: Server, mut line: Line, stop: &File, silence: Duration) 
             Event::Timeout => {
                 let mut reply = [0; REPLY_BYTES];
                 let reply = server.answer(&framer.take(), &mut reply)?;
-                if !line.send(reply, stop)? {
-                    say("the line doesn't take the reply; it was dropped");
-                }
+                framer.push(&line.send(reply, stop)?);
                 replied = true;
             }
         }
@@ -68,17 +64,29 @@ struct Server {
     /// None: the system's.
     clock: Option<u32>,
     verbose: bool,
+    /// A technician was told that the journal is full.
+    refused: bool,
 }
+
+/// The code of an update that a full journal can't take.
+const JOURNAL_FULL: u8 = 0xC0;
 
 impl Server {
     fn new(options: &Options, sensors: Sensors) -> Result<Server, String> {
-        let (volume, sonde) = VolumeFile::open(&options.volume, options.address, options.entries.unwrap_or(MOST_ENTRIES))?;
+        let (volume, sonde) = match &options.new_volume {
+            Some(new) => VolumeFile::succeed(&options.volume, new, options.address, options.entries)?,
+            None => VolumeFile::open(&options.volume, options.address, options.entries)?,
+        };
+        if volume.is_full() {
+            say(&full(&volume));
+        }
         Ok(Server {
             sonde,
             volume,
             sensors,
             clock: options.clock,
             verbose: options.verbose,
+            refused: false,
         })
     }
 
@@ -97,8 +105,27 @@ impl Server {
                 .map_err(refused)?;
             say(&log_line(clock, frame, reply, entries));
         }
+        self.tell_full(journalled, reply);
         Ok(reply)
     }
+
+    /// Says what to do about a full journal: once when it becomes full, and once when an update is refused for it.
+    fn tell_full(&mut self, journalled: bool, reply: &[u8]) {
+        let refused = matches!(reply, [_, function, JOURNAL_FULL, ..] if function & 0x80 != 0);
+        if journalled && self.volume.is_full() || refused && !self.refused {
+            say(&full(&self.volume));
+        }
+        self.refused |= refused;
+    }
+}
+
+fn full(volume: &VolumeFile) -> String {
+    format!(
+        "the journal is full, with {} entries; an update is answered by exception 0xC0. To go on: stop the server and start it with \
+         --volume {} --new-volume FILE. FILE begins with the calibrations in force, and the full volume stays for the archive",
+        volume.capacity(),
+        volume.path.display()
+    )
 }
 
 /// Whole seconds since 1970, UTC. They fill 32 bits until 2106.
@@ -116,7 +143,7 @@ fn log_line(clock: u32, frame: &[u8], reply: &[u8], entries: Option<u16>) -> Str
         _ => format!("< {}", hex(reply)),
     };
     let note = entries.map_or(String::new(), |n| format!(" (calibration journalled, entries in use: {n})"));
-    format!("{clock} > {} {answer}{note}", hex(frame))
+    format!("{} {clock} > {} {answer}{note}", date::utc(clock), hex(frame))
 }
 
 #[cfg(test)]
@@ -130,8 +157,11 @@ mod tests {
             log_line(7, &[1, 0x44], &[1, 0xC4, 1, 0, 0], None),
             log_line(9, &[1, 6], &[1, 6], Some(3)),
         ];
-        assert_eq!(lines[0], "7 > 01 03 AB no reply");
-        assert_eq!(lines[1], "7 > 01 44 < 01 C4 01 00 00 (exception 0x01)");
-        assert_eq!(lines[2], "9 > 01 06 < 01 06 (calibration journalled, entries in use: 3)");
+        assert_eq!(lines[0], "1970-01-01T00:00:07Z 7 > 01 03 AB no reply");
+        assert_eq!(lines[1], "1970-01-01T00:00:07Z 7 > 01 44 < 01 C4 01 00 00 (exception 0x01)");
+        assert_eq!(
+            lines[2],
+            "1970-01-01T00:00:09Z 9 > 01 06 < 01 06 (calibration journalled, entries in use: 3)"
+        );
     }
 }

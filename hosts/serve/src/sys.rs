@@ -4,8 +4,8 @@
 mod events;
 mod terminal;
 
-pub use events::{stop_signals, wait, Event, Wish};
-pub use terminal::{drop_input, open_pty, set_raw, LINE_FLAGS};
+pub use events::{stop_signals, stopped, wait, Event, Wish};
+pub use terminal::{drain, drop_input, has_echo, open_pty, set_raw, set_rs485, unsent, LINE_FLAGS};
 
 use std::ffi::c_int;
 use std::io;

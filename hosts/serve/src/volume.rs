@@ -1,132 +1,208 @@
 //! The volume in its file: the words in order, each with its high byte first, and nothing else.
 
-use sonde::{Sonde, LEAST_WORDS, MOST_WORDS};
-use std::ffi::OsString;
-use std::fs::{self, File, TryLockError};
-use std::io::{self, ErrorKind, Read, Write};
+use crate::fault;
+use crate::files::{beside, left_over, open_regular, read_most, replace, resolved, writable, Identity, Lock};
+use crate::say;
+use sonde::{Sonde, LEAST_WORDS};
 use std::path::{Path, PathBuf};
 
+/// Entries that a volume can have at most: they fill 48128 bytes.
+const MOST_ENTRIES: usize = 1000;
+/// A longer file isn't read. A volume may have words that its journal never uses, but a file of this size is a mistake.
+const MOST_BYTES: usize = 1 << 20;
+
+/// What a file has.
+struct Content {
+    words: Vec<u16>,
+    /// The file that has them.
+    identity: Identity,
+}
+
 pub struct VolumeFile {
-    path: PathBuf,
+    pub path: PathBuf,
     /// The words, lent to the library.
     pub words: Vec<u16>,
-    /// The words as the file has them.
-    saved: Vec<u16>,
-    /// Locked while this lives. A file of its own, since the volume's is replaced at each write.
-    _lock: File,
+    /// As last read or written.
+    saved: Content,
+    /// Of a file of its own, since the volume's is replaced at each write.
+    lock: Lock,
+    /// Of the volume before this one, where this one was begun from it.
+    _before: Option<Lock>,
 }
 
 impl VolumeFile {
     /// Powers a sonde up from the file. Where there is none, begins a volume for a fresh sonde and writes the file.
-    pub fn open(path: &Path, address: u8, entries: usize) -> Result<(VolumeFile, Sonde), String> {
-        VolumeFile::locked(path)
-            .and_then(|mut volume| {
-                let sonde = match File::open(&volume.path) {
-                    Ok(file) => volume.power_up(file, address)?,
-                    Err(e) if e.kind() == ErrorKind::NotFound => volume.begin(address, entries)?,
-                    Err(e) => return Err(e.to_string()),
-                };
-                Ok((volume, sonde))
-            })
-            .map_err(|e| format!("the volume {}: {e}", path.display()))
+    pub fn open(path: &Path, address: u8, entries: Option<usize>) -> Result<(VolumeFile, Sonde), String> {
+        let place = resolved(path).map_err(named(path))?;
+        if Identity::at(&place).is_err() {
+            let fresh = Sonde::fresh(address).map_err(|e| e.to_string())?;
+            return VolumeFile::begun(&place, fresh, entries, None).map_err(named(path));
+        }
+        let (volume, sonde) = VolumeFile::present(&place, address).map_err(named(path))?;
+        if entries.is_some() {
+            let room = volume.capacity();
+            say(&format!(
+                "--entries has no effect: {} is there, with room for {room}",
+                path.display()
+            ));
+        }
+        Ok((volume, sonde))
     }
 
-    /// The path's volume with no words yet, locked.
-    fn locked(path: &Path) -> Result<VolumeFile, String> {
-        let path = resolved(path).map_err(|e| e.to_string())?;
-        let lock = lock_file(&beside(&path, ".lock"))?;
-        Ok(VolumeFile {
-            path,
-            words: Vec::new(),
-            saved: Vec::new(),
-            _lock: lock,
-        })
+    /// Powers a sonde up from one volume, which stays as it is, and begins another with its calibrations.
+    pub fn succeed(path: &Path, new: &Path, address: u8, entries: Option<usize>) -> Result<(VolumeFile, Sonde), String> {
+        if Identity::at(new).is_ok() {
+            let new = new.display();
+            return Err(format!(
+                "--new-volume {new}: it exists, and nothing is overwritten. --volume {new} serves it"
+            ));
+        }
+        let new_place = resolved(new).map_err(named(new))?;
+        let place = resolved(path).map_err(named(path))?;
+        let ((_, sonde), before) = locked(&place, || power_up(&place, address)).map_err(named(path))?;
+        VolumeFile::begun(&new_place, sonde, entries, Some(before)).map_err(named(new))
     }
 
-    fn power_up(&mut self, file: File, address: u8) -> Result<Sonde, String> {
-        self.words = read(file)?;
-        self.saved.clone_from(&self.words);
-        let sonde = Sonde::power_up(address, &self.words);
-        sonde.map_err(|e| format!("power-up is refused with number {}: {e}; the file stays as it is", e as u8))
+    fn present(place: &Path, address: u8) -> Result<(VolumeFile, Sonde), String> {
+        if !writable(place)? {
+            return Err(
+                "the file is write-protected, so no calibration could be kept; --check FILE looks at it without writing".to_string(),
+            );
+        }
+        let ((saved, sonde), lock) = locked(place, || power_up(place, address))?;
+        Ok((VolumeFile::new(place, saved, lock, None), sonde))
     }
 
-    fn begin(&mut self, address: u8, entries: usize) -> Result<Sonde, String> {
-        self.words = vec![0; 64 + 24 * entries];
-        let sonde = Sonde::fresh(address).map_err(|e| e.to_string())?;
-        sonde.begin(&mut self.words).map_err(|e| e.to_string())?;
-        self.save()?;
-        Ok(sonde)
+    fn begun(place: &Path, sonde: Sonde, entries: Option<usize>, before: Option<Lock>) -> Result<(VolumeFile, Sonde), String> {
+        match locked(place, || begin(place, &sonde, entries.unwrap_or(MOST_ENTRIES))) {
+            Ok((saved, lock)) => Ok((VolumeFile::new(place, saved, lock, before), sonde)),
+            Err(e) => {
+                if let Some(lock) = before {
+                    lock.undo();
+                }
+                Err(e)
+            }
+        }
     }
 
-    /// Writes the file if the words have changed, and hands back whether they had. They are on the disk when this returns.
+    fn new(place: &Path, saved: Content, lock: Lock, before: Option<Lock>) -> VolumeFile {
+        for left in left_over(place) {
+            say(&format!(
+                "{} is left from a write that was cut short; it isn't used",
+                left.display()
+            ));
+        }
+        VolumeFile {
+            path: place.to_path_buf(),
+            words: saved.words.clone(),
+            saved,
+            lock,
+            _before: before,
+        }
+    }
+
+    /// Entries that there is room for.
+    pub fn capacity(&self) -> u16 {
+        self.words[1]
+    }
+
+    pub fn is_full(&self) -> bool {
+        self.words[2] == self.words[1]
+    }
+
+    /// Writes the file if the words have changed, and hands back whether they had. They are on the disk when this returns. A file that isn't
+    /// the one that was last read or written is left as it is.
     pub fn save(&mut self) -> Result<bool, String> {
-        if self.words == self.saved {
+        if self.words == self.saved.words {
             return Ok(false);
         }
-        let new = beside(&self.path, ".new");
-        replace(&self.path, &new, &to_bytes(&self.words)).map_err(|e| {
-            let _ = fs::remove_file(&new);
-            format!("{} can't be written: {e}", self.path.display())
-        })?;
-        self.saved.clone_from(&self.words);
+        let written = self.untouched().and_then(|()| write(&self.path, &self.words));
+        let failed = |e| format!("{} can't be written: {e}; the calibration is not in it", self.path.display());
+        self.saved.identity = written.map_err(failed)?;
+        self.saved.words.clone_from(&self.words);
         Ok(true)
     }
-}
 
-/// Replaces a file at one stroke: after a power cut it is the old or the new one, whole.
-fn replace(path: &Path, new: &Path, bytes: &[u8]) -> io::Result<()> {
-    let mut file = File::create(new)?;
-    file.write_all(bytes)?;
-    if let Ok(old) = fs::metadata(path) {
-        file.set_permissions(old.permissions())?;
-    }
-    file.sync_all()?;
-    fs::rename(new, path)?;
-    match path.parent() {
-        Some(folder) => File::open(folder)?.sync_all(),
-        None => Ok(()),
-    }
-}
-
-/// The path without links, so that a volume has one lock whatever it is called by, and a link to it stays one.
-fn resolved(path: &Path) -> io::Result<PathBuf> {
-    match fs::canonicalize(path) {
-        Err(e) if e.kind() == ErrorKind::NotFound => {
-            let name = path.file_name().ok_or(e)?;
-            let folder = path.parent().filter(|p| !p.as_os_str().is_empty()).unwrap_or(Path::new("."));
-            Ok(fs::canonicalize(folder)?.join(name))
+    /// Whether nobody else has been at the file.
+    fn untouched(&self) -> Result<(), String> {
+        if !self.lock.is_held() {
+            return Err("its lock file was removed or replaced, so another server may have it".to_string());
         }
-        other => other,
+        let there = Content::read(&self.path).map_err(|e| format!("what was last written isn't there ({e})"))?;
+        if there.identity != self.saved.identity || there.words != self.saved.words {
+            return Err("another program has changed it, and nothing is overwritten".to_string());
+        }
+        Ok(())
     }
 }
 
-fn beside(path: &Path, ending: &str) -> PathBuf {
-    let mut name = OsString::from(path);
-    name.push(ending);
-    PathBuf::from(name)
-}
-
-fn lock_file(path: &Path) -> Result<File, String> {
-    let lock = File::options().create(true).append(true).open(path);
-    let lock = lock.map_err(|e| format!("{} can't be opened: {e}", path.display()))?;
-    match lock.try_lock() {
-        Ok(()) => Ok(lock),
-        Err(TryLockError::WouldBlock) => Err("another server has it".to_string()),
-        Err(TryLockError::Error(e)) => Err(format!("{} can't be locked: {e}", path.display())),
+impl Content {
+    /// The words of a file that may be a volume. Whether it is one, power-up decides.
+    fn read(path: &Path) -> Result<Content, String> {
+        let file = open_regular(path)?;
+        let bytes = read_most(&file, MOST_BYTES + 1).map_err(|e| e.to_string())?;
+        match bytes.len() {
+            length if length > MOST_BYTES => Err(format!("the file has more than {MOST_BYTES} bytes, the most that is read here")),
+            length if length % 2 != 0 => Err(format!("the file has {length} bytes, which are no whole words")),
+            length if length < 2 * LEAST_WORDS => Err(format!("the file has {length} bytes; the least volume has {}", 2 * LEAST_WORDS)),
+            _ => Ok(Content {
+                words: from_bytes(&bytes),
+                identity: Identity::of(&file).map_err(|e| e.to_string())?,
+            }),
+        }
     }
 }
 
-/// The words of a file that may be a volume. Whether it is one, power-up decides.
-fn read(file: File) -> Result<Vec<u16>, String> {
-    let most = 2 * MOST_WORDS as u64;
-    let mut bytes = Vec::new();
-    file.take(most + 1).read_to_end(&mut bytes).map_err(|e| e.to_string())?;
-    match bytes.len() {
-        length if length as u64 > most => Err(format!("the file has more than {most} bytes, so it is no volume")),
-        length if length % 2 != 0 => Err(format!("the file has {length} bytes, which are no whole words")),
-        length if length < 2 * LEAST_WORDS => Err(format!("the file has {length} bytes; the least volume has {}", 2 * LEAST_WORDS)),
-        _ => Ok(from_bytes(&bytes)),
+/// Whether a file is a valid volume: what there is to say of it. Reads it, and writes nothing.
+pub fn check(path: &Path) -> Result<String, String> {
+    let (content, _) = power_up(path, 1).map_err(named(path))?;
+    let (used, room) = (content.words[2], content.words[1]);
+    Ok(format!("{}: a valid volume; {used} of {room} entries are in use", path.display()))
+}
+
+/// Does something with a volume while it is locked. Where that is refused, no new lock file is left.
+fn locked<T>(place: &Path, work: impl FnOnce() -> Result<T, String>) -> Result<(T, Lock), String> {
+    let lock = Lock::take(&beside(place, ".lock"))?;
+    match work() {
+        Ok(done) => Ok((done, lock)),
+        Err(e) => {
+            lock.undo();
+            Err(e)
+        }
     }
+}
+
+fn power_up(path: &Path, address: u8) -> Result<(Content, Sonde), String> {
+    let content = Content::read(path)?;
+    let sonde = Sonde::power_up(address, &content.words).map_err(|e| refusal(e, &content.words))?;
+    Ok((content, sonde))
+}
+
+/// The verdict is the library's; the fault is named by this host.
+fn refusal(error: sonde::Error, words: &[u16]) -> String {
+    let fault = fault::first(words).map_or(String::new(), |fault| format!(": {fault}"));
+    format!(
+        "power-up is refused with number {}, since it is no valid volume{fault}; the file stays as it is",
+        error as u8
+    )
+}
+
+fn begin(place: &Path, sonde: &Sonde, entries: usize) -> Result<Content, String> {
+    let mut words = vec![0; 64 + 24 * entries];
+    sonde.begin(&mut words).map_err(|e| e.to_string())?;
+    if Identity::at(place).is_ok() {
+        return Err("another program has just made it, and nothing is overwritten".to_string());
+    }
+    let identity = write(place, &words).map_err(|e| format!("it can't be written: {e}"))?;
+    Ok(Content { words, identity })
+}
+
+fn write(path: &Path, words: &[u16]) -> Result<Identity, String> {
+    replace(path, &to_bytes(words)).map_err(|e| e.to_string())
+}
+
+fn named(path: &Path) -> impl Fn(String) -> String + '_ {
+    move |message| format!("the volume {}: {message}", path.display())
 }
 
 fn to_bytes(words: &[u16]) -> Vec<u8> {

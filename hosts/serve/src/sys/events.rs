@@ -65,6 +65,11 @@ pub enum Event {
     Timeout,
 }
 
+/// Whether `stop` can be read within this time.
+pub fn stopped(stop: &File, time: Duration) -> io::Result<bool> {
+    wait(stop, Wish::Read, stop, Some(time)).map(|event| event == Event::Stop)
+}
+
 /// Waits until the line is ready, or `stop` can be read, or the time is over (None: never).
 pub fn wait(line: &File, wish: Wish, stop: &File, timeout: Option<Duration>) -> io::Result<Event> {
     let fd = |file: &File, events| PollFd {

@@ -1,8 +1,8 @@
 //! Pseudo-terminals and the settings of a line.
 
 use super::done;
-use serve_options::Parity;
-use std::ffi::{c_char, c_int, c_uint, CStr, OsStr};
+use serve_options::{Parity, Rts};
+use std::ffi::{c_char, c_int, c_uint, c_ulong, CStr, OsStr};
 use std::fs::File;
 use std::io;
 use std::os::fd::{AsRawFd, FromRawFd};
@@ -20,8 +20,14 @@ const PARENB: c_uint = 0o400;
 const PARODD: c_uint = 0o1000;
 const CLOCAL: c_uint = 0o4000;
 const CRTSCTS: c_uint = 0o20000000000;
+const ECHO: c_uint = 0o10;
 const TCSANOW: c_int = 0;
 const TCIFLUSH: c_int = 0;
+const TIOCOUTQ: c_ulong = 0x5411;
+const TIOCSRS485: c_ulong = 0x542F;
+const SER_RS485_ENABLED: u32 = 1;
+const SER_RS485_RTS_ON_SEND: u32 = 2;
+const SER_RS485_RTS_AFTER_SEND: u32 = 4;
 
 #[repr(C)]
 #[derive(Default)]
@@ -36,6 +42,16 @@ struct Termios {
     ospeed: c_uint,
 }
 
+/// As linux/serial.h declares it.
+#[repr(C)]
+#[derive(Default)]
+struct SerialRs485 {
+    flags: u32,
+    delay_before_send: u32,
+    delay_after_send: u32,
+    padding: [u32; 5],
+}
+
 extern "C" {
     fn posix_openpt(flags: c_int) -> c_int;
     fn grantpt(fd: c_int) -> c_int;
@@ -44,6 +60,8 @@ extern "C" {
     fn tcgetattr(fd: c_int, termios: *mut Termios) -> c_int;
     fn tcsetattr(fd: c_int, when: c_int, termios: *const Termios) -> c_int;
     fn tcflush(fd: c_int, queue: c_int) -> c_int;
+    fn tcdrain(fd: c_int) -> c_int;
+    fn ioctl(fd: c_int, request: c_ulong, ...) -> c_int;
     fn cfmakeraw(termios: *mut Termios);
     fn cfsetspeed(termios: *mut Termios, speed: c_uint) -> c_int;
 }
@@ -64,12 +82,17 @@ pub fn open_pty() -> io::Result<(File, PathBuf)> {
     }
 }
 
+fn termios_of(line: &File) -> io::Result<Termios> {
+    let mut termios = Termios::default();
+    // SAFETY: the descriptor is open, and the struct is as glibc declares it.
+    done(unsafe { tcgetattr(line.as_raw_fd(), &mut termios) }).map(|_| termios)
+}
+
 /// Bytes as they are, 8 bits each, at this speed. A byte with a wrong parity is read as zero, so that the checksum refuses it.
 pub fn set_raw(line: &File, speed: u32, parity: Parity) -> io::Result<()> {
-    let mut termios = Termios::default();
-    // SAFETY: the descriptor is open, and the struct is as glibc declares it; cfmakeraw and cfsetspeed look at nothing else.
+    let mut termios = termios_of(line)?;
+    // SAFETY: the struct is as glibc declares it; cfmakeraw and cfsetspeed look at nothing else.
     unsafe {
-        done(tcgetattr(line.as_raw_fd(), &mut termios))?;
         cfmakeraw(&mut termios);
         done(cfsetspeed(&mut termios, speed))?;
     }
@@ -84,7 +107,7 @@ pub fn set_raw(line: &File, speed: u32, parity: Parity) -> io::Result<()> {
     if parity != Parity::None {
         termios.iflag |= INPCK;
     }
-    // SAFETY: as above.
+    // SAFETY: the descriptor is open, and the struct is as glibc declares it.
     done(unsafe { tcsetattr(line.as_raw_fd(), TCSANOW, &termios) }).map(|_| ())
 }
 
@@ -92,4 +115,36 @@ pub fn set_raw(line: &File, speed: u32, parity: Parity) -> io::Result<()> {
 pub fn drop_input(line: &File) -> io::Result<()> {
     // SAFETY: the descriptor is open.
     done(unsafe { tcflush(line.as_raw_fd(), TCIFLUSH) }).map(|_| ())
+}
+
+/// Whether a terminal hands back what it is given.
+pub fn has_echo(line: &File) -> io::Result<bool> {
+    termios_of(line).map(|termios| termios.lflag & ECHO != 0)
+}
+
+/// The bytes that were written to a line and haven't left it.
+pub fn unsent(line: &File) -> io::Result<c_int> {
+    let mut count = 0;
+    // SAFETY: the descriptor is open, and TIOCOUTQ writes one int.
+    done(unsafe { ioctl(line.as_raw_fd(), TIOCOUTQ, &mut count as *mut c_int) }).map(|_| count)
+}
+
+/// Waits until the last bit has left a line.
+pub fn drain(line: &File) -> io::Result<()> {
+    // SAFETY: the descriptor is open.
+    done(unsafe { tcdrain(line.as_raw_fd()) }).map(|_| ())
+}
+
+/// Lets the kernel switch an RS-485 driver by RTS: to send while bytes are sent, else to receive.
+pub fn set_rs485(line: &File, rts: Rts) -> io::Result<()> {
+    let level = match rts {
+        Rts::High => SER_RS485_RTS_ON_SEND,
+        Rts::Low => SER_RS485_RTS_AFTER_SEND,
+    };
+    let settings = SerialRs485 {
+        flags: SER_RS485_ENABLED | level,
+        ..SerialRs485::default()
+    };
+    // SAFETY: the descriptor is open, and the struct is as the kernel declares it.
+    done(unsafe { ioctl(line.as_raw_fd(), TIOCSRS485, &settings as *const SerialRs485) }).map(|_| ())
 }

@@ -13,6 +13,8 @@ use std::time::{Duration, Instant};
 pub const PAUSE: Duration = Duration::from_millis(300);
 const DEADLINE: Duration = Duration::from_secs(10);
 
+const SERVE: &str = env!("CARGO_BIN_EXE_serve");
+
 /// A folder that goes when the test ends.
 pub struct Folder(pub PathBuf);
 
@@ -47,10 +49,15 @@ impl Folder {
         names
     }
 
-    /// A server, and the line that it has announced: empty where it ended without one.
-    fn spawn(&self, words: &str) -> Server {
-        let mut command = Command::new(env!("CARGO_BIN_EXE_serve"));
+    /// The server's command, to be run in this folder.
+    fn command(&self, program: &str, words: &str) -> Command {
+        let mut command = Command::new(program);
         command.current_dir(&self.0).args(words.split_whitespace());
+        command
+    }
+
+    /// A server, and the line that it has announced: empty where it ended without one.
+    fn spawn(&self, mut command: Command) -> Server {
         let mut child = command.stdout(Stdio::piped()).stderr(Stdio::piped()).spawn().unwrap();
         let mut first = String::new();
         BufReader::new(child.stdout.take().unwrap()).read_line(&mut first).unwrap();
@@ -60,16 +67,42 @@ impl Folder {
         }
     }
 
+    /// Runs the server to its end: exit status, standard output and standard error.
+    pub fn run(&self, words: &str) -> (i32, String, String) {
+        let output = self.command(SERVE, words).output().unwrap();
+        let text = |bytes| String::from_utf8(bytes).unwrap();
+        (output.status.code().unwrap_or(-1), text(output.stdout), text(output.stderr))
+    }
+
     /// Runs a server that can't start: exit status and standard error.
     pub fn refused(&self, words: &str) -> (i32, String) {
-        let mut server = self.spawn(words);
+        let mut server = self.spawn(self.command(SERVE, words));
         assert_eq!(server.path, PathBuf::new(), "{words}");
         server.ended()
     }
 
     /// Starts a server and waits until it serves.
     pub fn serve(&self, words: &str) -> Server {
-        let mut server = self.spawn(words);
+        self.serving(self.command(SERVE, words), words)
+    }
+
+    /// The same with an environment variable.
+    pub fn serve_with(&self, name: &str, value: &Path, words: &str) -> Server {
+        let mut command = self.command(SERVE, words);
+        command.env(name, value);
+        self.serving(command, words)
+    }
+
+    /// A server that can write no file, as on a full disk.
+    pub fn serve_on_full_disk(&self, words: &str) -> Server {
+        let mut command = Command::new("sh");
+        let script = format!("trap '' XFSZ; ulimit -f 0; exec {SERVE} {words}");
+        command.current_dir(&self.0).arg("-c").arg(script);
+        self.serving(command, words)
+    }
+
+    fn serving(&self, command: Command, words: &str) -> Server {
+        let mut server = self.spawn(command);
         if server.path.as_os_str().is_empty() {
             panic!("{words}: the server ended with {:?}", server.ended());
         }
@@ -89,17 +122,25 @@ pub struct Server {
 }
 
 impl Server {
+    pub fn id(&self) -> u32 {
+        self.child.id()
+    }
+
     pub fn client(&self) -> Client {
         Client::open(&self.path)
     }
 
-    /// Sends a signal (INT or TERM) and waits for the end.
-    pub fn stop(mut self, signal: &str) -> (i32, String) {
+    pub fn signal(&self, name: &str) {
         let kill = Command::new("kill")
-            .arg(format!("-{signal}"))
+            .arg(format!("-{name}"))
             .arg(self.child.id().to_string())
             .status();
         assert!(kill.unwrap().success());
+    }
+
+    /// Sends a signal (INT or TERM) and waits for the end.
+    pub fn stop(mut self, signal: &str) -> (i32, String) {
+        self.signal(signal);
         self.ended()
     }
 
@@ -126,7 +167,7 @@ impl Drop for Server {
 pub struct Client(pub File);
 
 impl Client {
-    fn open(path: &Path) -> Client {
+    pub fn open(path: &Path) -> Client {
         let mut options = OpenOptions::new();
         options.read(true).write(true).custom_flags(serve::sys::LINE_FLAGS);
         Client(options.open(path).unwrap())
@@ -156,6 +197,12 @@ impl Client {
         self.send(&framed(body));
         let expected = framed(expected);
         assert_eq!(self.receive(expected.len(), DEADLINE), expected, "the reply to {body:02X?}");
+    }
+
+    /// The same on a line that hands back what it is given: the reply goes straight back.
+    pub fn ask_with_echo(&mut self, body: &[u8], expected: &[u8]) {
+        self.ask(body, expected);
+        self.send(&framed(expected));
     }
 
     /// Nothing comes, for a while.

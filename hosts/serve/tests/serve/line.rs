@@ -35,6 +35,22 @@ fn halves_with_less_than_the_silence_between_are_one_good_frame() {
     client.ask(&COUNTERS, &[1, 3, 6, 0, 1, 0, 0, 0, 0]);
 }
 
+/// A line gives no time stamps: the limit that --help names.
+#[test]
+fn frames_that_came_while_the_server_was_held_up_are_one_bad_frame() {
+    let folder = Folder::new();
+    let server = folder.serve("");
+    let mut client = server.client();
+    server.signal("STOP");
+    for _ in 0..2 {
+        client.send(&framed(&VERSION.0));
+        sleep(PAUSE);
+    }
+    server.signal("CONT");
+    client.hears_nothing();
+    client.ask(&COUNTERS, &[1, 3, 6, 0, 0, 0, 1, 0, 0]);
+}
+
 #[test]
 fn the_silence_is_3_5_characters_of_the_speed() {
     let folder = Folder::new();
@@ -108,6 +124,79 @@ fn a_device_is_served_and_its_end_is_told() {
 }
 
 #[test]
+fn a_device_has_one_server_by_whatever_name() {
+    let folder = Folder::new();
+    let (wire, device) = open_pty().unwrap();
+    let server = folder.serve(&format!("--device {} --parity none", device.display()));
+    std::os::unix::fs::symlink(&device, folder.path("device")).unwrap();
+    for name in [device.to_str().unwrap(), "device"] {
+        let (status, said) = folder.refused(&format!("--device {name} --parity none --volume other"));
+        assert_eq!(status, 1);
+        assert_eq!(said, format!("serve: the device {name} can't be used: another server has it\n"));
+    }
+    assert_eq!(folder.names(), ["device", "sonde.volume", "sonde.volume.lock"]);
+    let mut client = Client(wire);
+    client.ask(&VERSION.0, &VERSION.1);
+    assert_eq!(server.stop("TERM"), (0, String::new()));
+}
+
+/// Stands in for the kernel's driver, which a pseudo-terminal doesn't have: notes what it is asked for.
+const DRIVER: &str = r#"
+#include <stdarg.h>
+#include <stdio.h>
+#include <linux/serial.h>
+#include <sys/ioctl.h>
+#include <sys/syscall.h>
+#include <unistd.h>
+int ioctl(int fd, unsigned long request, ...) {
+    va_list list;
+    va_start(list, request);
+    void *argument = va_arg(list, void *);
+    va_end(list);
+    if (request != TIOCSRS485) return syscall(SYS_ioctl, fd, request, argument);
+    struct serial_rs485 *asked = argument;
+    FILE *note = fopen("asked", "w");
+    fprintf(note, "enabled %d, on send %d, after send %d, while sending %d, delays %u %u", !!(asked->flags & SER_RS485_ENABLED),
+            !!(asked->flags & SER_RS485_RTS_ON_SEND), !!(asked->flags & SER_RS485_RTS_AFTER_SEND), !!(asked->flags & SER_RS485_RX_DURING_TX),
+            asked->delay_rts_before_send, asked->delay_rts_after_send);
+    return fclose(note);
+}
+"#;
+
+#[test]
+fn the_kernel_is_asked_to_switch_an_rs485_driver() {
+    let folder = Folder::new();
+    folder.write("driver.c", DRIVER);
+    let driver = folder.path("driver.so");
+    let built = std::process::Command::new("cc")
+        .args(["-shared", "-fPIC", "-o"])
+        .args([&driver, &folder.path("driver.c")])
+        .status();
+    assert!(built.unwrap().success());
+    for (level, asked) in [("high", "on send 1, after send 0"), ("low", "on send 0, after send 1")] {
+        let (_wire, device) = open_pty().unwrap();
+        let words = format!("--device {} --parity none --rs485 {level}", device.display());
+        let server = folder.serve_with("LD_PRELOAD", &driver, &words);
+        assert_eq!(server.stop("TERM"), (0, String::new()));
+        let expected = format!("enabled 1, {asked}, while sending 0, delays 0 0");
+        assert_eq!(String::from_utf8(folder.read("asked")).unwrap(), expected);
+    }
+}
+
+#[test]
+fn a_device_without_an_rs485_driver_is_told() {
+    let folder = Folder::new();
+    let (_wire, device) = open_pty().unwrap();
+    let (status, said) = folder.refused(&format!("--device {} --parity none --rs485 high", device.display()));
+    assert_eq!(status, 1);
+    assert!(
+        said.contains("can't be used: the kernel can't switch its RS-485 driver (--rs485)"),
+        "{said}"
+    );
+    assert!(folder.names().is_empty());
+}
+
+#[test]
 fn signals_end_it_well() {
     for signal in ["INT", "TERM"] {
         let folder = Folder::new();
@@ -133,8 +222,11 @@ fn verbose_says_what_was_done() {
     client.ask(&[1, 6, 0, 105, 0xE0, 0x01], &[1, 6, 0, 105, 0xE0, 0x01]);
     let (_, said) = server.stop("TERM");
     let lines: Vec<&str> = said.lines().collect();
-    assert_eq!(lines[0], "serve: 1767225600 > 01 03 00 00 00 01 84 0A < 01 03 02 00 03 F8 45");
-    assert_eq!(lines[1], "serve: 1767225600 > 01 03 00 00 no reply");
+    assert_eq!(
+        lines[0],
+        "serve: 2026-01-01T00:00:00Z 1767225600 > 01 03 00 00 00 01 84 0A < 01 03 02 00 03 F8 45"
+    );
+    assert_eq!(lines[1], "serve: 2026-01-01T00:00:00Z 1767225600 > 01 03 00 00 no reply");
     assert!(lines[2].ends_with("(exception 0x92)"), "{said}");
     assert!(lines[4].ends_with("(calibration journalled, entries in use: 1)"), "{said}");
     assert_eq!(lines.len(), 5);

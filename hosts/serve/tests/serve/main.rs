@@ -1,7 +1,13 @@
 //! The server as a process, driven over its line byte for byte. Expected bytes are worked out from document 01.
 
+mod check;
+mod echo;
+mod files;
 mod harness;
 mod line;
+mod link;
 mod options;
 mod sensors;
+mod succession;
 mod volume;
+mod worked;

@@ -38,8 +38,28 @@ fn help_names_every_option() {
     assert!(output.status.success() && output.stderr.is_empty());
     let text = String::from_utf8(output.stdout).unwrap();
     for name in [
-        "device", "speed", "parity", "silence", "address", "volume", "entries", "raw", "raws", "clock", "verbose", "help",
+        "device",
+        "link",
+        "speed",
+        "parity",
+        "silence",
+        "echo",
+        "rs485",
+        "address",
+        "volume",
+        "new-volume",
+        "entries",
+        "check",
+        "raw",
+        "raws",
+        "clock",
+        "verbose",
+        "version",
+        "help",
     ] {
         assert!(text.contains(&format!("    --{name} ")), "{name}");
+    }
+    for limit in ["the disk is full", "no time stamps", "No effect on a file that is there"] {
+        assert!(text.contains(limit), "{limit}");
     }
 }

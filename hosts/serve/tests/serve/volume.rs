@@ -1,44 +1,7 @@
-use crate::harness::{framed, Client, Folder};
+use crate::harness::{framed, Folder};
+use crate::worked::{begun, bytes, calibrated, prepare, START, UPDATE};
 use std::fs;
-use std::os::unix::fs::{symlink, PermissionsExt};
-
-/// A fresh sonde's volume for 3 entries: the format 1, the capacity, and the opening, where coefficient 2 is 1.0 on sensors 1, 2 and 4.
-fn begun() -> Vec<u16> {
-    let mut words = vec![0; 64 + 24 * 3];
-    words[0] = 1;
-    words[1] = 3;
-    for sensor in [1, 2, 4] {
-        words[10 + 6 * sensor + 2] = 0x3F80;
-    }
-    words
-}
-
-/// The same after one point (1000, 1250) on sensor 1 at 0x69550001: entry 1, first and last of its chain.
-fn calibrated() -> Vec<u16> {
-    let mut words = begun();
-    words[2] = 1;
-    words[4] = 1;
-    words[8] = 1;
-    let entry = [0, 1, 1, 0, 0x6955, 0x0001, 0, 0, 0x3FA0, 0, 0, 0, 0x447A, 0, 0x449C, 0x4000];
-    words[64..64 + entry.len()].copy_from_slice(&entry);
-    words
-}
-
-fn bytes(words: &[u16]) -> Vec<u8> {
-    words.iter().flat_map(|w| [(w >> 8) as u8, *w as u8]).collect()
-}
-
-const START: &str = "--entries 3 --clock 1767178241"; // 0x69550001
-const UPDATE: [u8; 6] = [1, 6, 0, 105, 0xE0, 0x01];
-
-/// Mode on, method 1, the point (1000, 1250).
-fn prepare(client: &mut Client) {
-    for word in [[1, 6, 0, 105, 0xE0, 0x00], [1, 6, 0, 106, 0, 1]] {
-        client.ask(&word, &word);
-    }
-    client.ask(&[1, 16, 0, 116, 0, 2, 4, 0x44, 0x7A, 0, 0], &[1, 16, 0, 116, 0, 2]);
-    client.ask(&[1, 16, 0, 118, 0, 2, 4, 0x44, 0x9C, 0x40, 0], &[1, 16, 0, 118, 0, 2]);
-}
+use std::os::unix::fs::{symlink, MetadataExt, PermissionsExt};
 
 #[test]
 fn an_absent_volume_is_begun() {
@@ -103,14 +66,47 @@ fn a_file_that_is_no_volume_is_refused_and_stays() {
         ),
         (whole[..174].to_vec(), "the file has 174 bytes; the least volume has 176"),
         (Vec::new(), "the file has 0 bytes"),
-        (vec![0; 48130], "the file has more than 48128 bytes"),
+        (
+            vec![0; (1 << 20) + 2],
+            "the file has more than 1048576 bytes, the most that is read here",
+        ),
     ] {
         folder.write("sonde.volume", &content);
         let (status, said) = folder.refused("");
         assert_eq!(status, 1, "{message}");
         assert!(said.contains(message), "{said}");
         assert_eq!(folder.read("sonde.volume"), content, "{message}");
+        assert_eq!(folder.names(), ["sonde.volume"], "{message}");
     }
+}
+
+#[test]
+fn a_volume_may_be_longer_than_its_journal() {
+    let folder = Folder::new();
+    let mut words = begun();
+    words[1] = 1000;
+    words.resize(24064 + 100, 0x5A5A);
+    folder.write("sonde.volume", bytes(&words));
+    let server = folder.serve("--clock 1767178241");
+    let mut client = server.client();
+    prepare(&mut client);
+    client.ask(&UPDATE, &UPDATE);
+    let mut expected = calibrated()[..64 + 24].to_vec();
+    expected[1] = 1000;
+    expected.extend(&words[64 + 24..]);
+    assert_eq!(folder.read("sonde.volume"), bytes(&expected));
+    assert_eq!(server.stop("TERM"), (0, String::new()));
+}
+
+#[test]
+fn entries_of_a_file_that_is_there_have_no_effect() {
+    let folder = Folder::new();
+    let said = |server: crate::harness::Server| server.stop("TERM").1;
+    assert_eq!(said(folder.serve(START)), "");
+    assert_eq!(said(folder.serve("")), "");
+    let message = "serve: --entries has no effect: sonde.volume is there, with room for 3\n";
+    assert_eq!(said(folder.serve("--entries 9")), message);
+    assert_eq!(folder.read("sonde.volume"), bytes(&begun()));
 }
 
 #[test]
@@ -142,16 +138,37 @@ fn a_volume_keeps_its_link_and_its_permissions() {
 }
 
 #[test]
-fn without_an_archive_there_is_no_reply() {
+fn a_volume_keeps_its_owner() {
     let folder = Folder::new();
-    let mut server = folder.serve(START);
+    folder.write("sonde.volume", bytes(&begun()));
+    let given = std::os::unix::fs::chown(folder.path("sonde.volume"), Some(12345), Some(12346)).is_ok(); // by root
+    let owner = || {
+        fs::metadata(folder.path("sonde.volume"))
+            .map(|found| (found.uid(), found.gid()))
+            .unwrap()
+    };
+    let before = owner();
+    assert_eq!(given, before == (12345, 12346));
+    let server = folder.serve("");
     let mut client = server.client();
     prepare(&mut client);
-    fs::create_dir(folder.path("sonde.volume.new")).unwrap(); // where the new file would be written
+    client.ask(&UPDATE, &UPDATE);
+    assert_eq!(owner(), before);
+}
+
+#[test]
+fn without_an_archive_there_is_no_reply() {
+    let folder = Folder::new();
+    folder.write("sonde.volume", bytes(&begun()));
+    let mut server = folder.serve_on_full_disk("");
+    let mut client = server.client();
+    prepare(&mut client);
     client.send(&framed(&UPDATE));
     client.hears_nothing();
     let (status, said) = server.ended();
     assert_eq!(status, 1);
-    assert!(said.contains("sonde.volume can't be written"), "{said}");
+    assert!(said.contains("sonde.volume can't be written: File too large"), "{said}");
+    assert!(said.contains("the calibration is not in it"), "{said}");
     assert_eq!(folder.read("sonde.volume"), bytes(&begun()));
+    assert_eq!(folder.names(), ["sonde.volume", "sonde.volume.lock"]);
 }

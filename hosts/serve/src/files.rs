@@ -1,0 +1,200 @@
+//! Files that others may have touched: opened without waiting, locked, and replaced only where they are still what they were.
+
+use crate::sys::LINE_FLAGS;
+use std::ffi::OsString;
+use std::fs::{self, File, Metadata, TryLockError};
+use std::io::{self, ErrorKind, Read, Write};
+use std::os::unix::fs::{fchown, MetadataExt, OpenOptionsExt};
+use std::path::{Path, PathBuf};
+
+/// A flag of open: no link is followed.
+const O_NOFOLLOW: i32 = 0o400000;
+
+/// A path with more behind its last name.
+pub fn beside(path: &Path, ending: &str) -> PathBuf {
+    let mut name = OsString::from(path);
+    name.push(ending);
+    PathBuf::from(name)
+}
+
+/// The path without links, so that a file has one name whatever it is called by, and a link to it stays one. A file need not be there, but a
+/// link has to lead to one.
+pub fn resolved(path: &Path) -> Result<PathBuf, String> {
+    let told = |e: io::Error| e.to_string();
+    match fs::symlink_metadata(path) {
+        Ok(found) if found.is_symlink() && !path.exists() => Err("it is a link that leads to no file".to_string()),
+        Ok(_) => fs::canonicalize(path).map_err(told),
+        Err(e) if e.kind() == ErrorKind::NotFound => resolved_folder(path).map_err(told),
+        Err(e) => Err(told(e)),
+    }
+}
+
+/// The path with no links before its last name.
+pub fn resolved_folder(path: &Path) -> io::Result<PathBuf> {
+    let name = path.file_name().ok_or(ErrorKind::InvalidInput)?;
+    let folder = path.parent().filter(|p| !p.as_os_str().is_empty()).unwrap_or(Path::new("."));
+    Ok(fs::canonicalize(folder)?.join(name))
+}
+
+/// Opens a regular file to be read. Nothing else is waited for: a FIFO without a writer would hold the server up for ever.
+pub fn open_regular(path: &Path) -> Result<File, String> {
+    open_checked(File::options().read(true), path)
+}
+
+/// Whether a regular file can be written, without writing to it.
+pub fn writable(path: &Path) -> Result<bool, String> {
+    open_regular(path)?;
+    let opened = open_checked(File::options().write(true), path);
+    let mode = fs::metadata(path).map_err(|e| e.to_string())?.permissions();
+    Ok(opened.is_ok() && !mode.readonly())
+}
+
+fn open_checked(options: &mut fs::OpenOptions, path: &Path) -> Result<File, String> {
+    let regular = |found: io::Result<Metadata>| match found {
+        Ok(found) if found.is_file() => Ok(()),
+        Ok(found) if found.is_dir() => Err("it is a folder".to_string()),
+        Ok(_) => Err("it is no regular file".to_string()),
+        Err(e) => Err(e.to_string()),
+    };
+    regular(fs::metadata(path))?;
+    let file = options.custom_flags(LINE_FLAGS).open(path).map_err(|e| e.to_string())?;
+    regular(file.metadata())?;
+    Ok(file)
+}
+
+/// The bytes of a file, at most so many.
+pub fn read_most(file: &File, most: usize) -> io::Result<Vec<u8>> {
+    let mut bytes = Vec::new();
+    file.take(most as u64).read_to_end(&mut bytes)?;
+    Ok(bytes)
+}
+
+/// Which file it is, whatever its name and content.
+#[derive(Clone, Copy, Debug, PartialEq)]
+pub struct Identity(u64, u64);
+
+impl Identity {
+    pub fn of(file: &File) -> io::Result<Identity> {
+        file.metadata().map(|found| Identity::from(&found))
+    }
+
+    /// Of what stands at a path, links not followed.
+    pub fn at(path: &Path) -> io::Result<Identity> {
+        fs::symlink_metadata(path).map(|found| Identity::from(&found))
+    }
+}
+
+impl From<&Metadata> for Identity {
+    fn from(found: &Metadata) -> Identity {
+        Identity(found.dev(), found.ino())
+    }
+}
+
+/// A lock file, locked while this lives.
+pub struct Lock {
+    path: PathBuf,
+    file: File,
+    made: bool,
+}
+
+impl Lock {
+    pub fn take(path: &Path) -> Result<Lock, String> {
+        loop {
+            let (file, made) = open_lock(path).map_err(|e| format!("{} can't be opened: {e}", path.display()))?;
+            match file.try_lock() {
+                Ok(()) => {}
+                Err(TryLockError::WouldBlock) => return Err("another server has it".to_string()),
+                Err(TryLockError::Error(e)) => return Err(format!("{} can't be locked: {e}", path.display())),
+            }
+            let path = path.to_path_buf();
+            let lock = Lock { path, file, made };
+            if lock.is_held() {
+                return Ok(lock);
+            }
+            // Another server removed the file between the two steps.
+        }
+    }
+
+    /// Whether the path still names the file that is locked.
+    pub fn is_held(&self) -> bool {
+        matches!((Identity::of(&self.file), Identity::at(&self.path)), (Ok(own), Ok(there)) if own == there)
+    }
+
+    /// Leaves nothing behind where nothing was before.
+    pub fn undo(self) {
+        if self.made && self.is_held() {
+            let _ = fs::remove_file(&self.path);
+        }
+    }
+}
+
+/// The file, and whether it wasn't there before.
+fn open_lock(path: &Path) -> io::Result<(File, bool)> {
+    match File::options().write(true).create_new(true).open(path) {
+        Ok(file) => Ok((file, true)),
+        Err(e) if e.kind() == ErrorKind::AlreadyExists => {
+            let file = File::options().read(true).custom_flags(LINE_FLAGS | O_NOFOLLOW).open(path)?;
+            match file.metadata()?.is_file() {
+                true => Ok((file, false)),
+                false => Err(io::Error::other("it is no regular file")),
+            }
+        }
+        Err(e) => Err(e),
+    }
+}
+
+/// Replaces a file at one stroke: after a power cut it is the old or the new one, whole. Hands back which file it is now.
+pub fn replace(path: &Path, bytes: &[u8]) -> io::Result<Identity> {
+    let (new, file) = create_beside(path)?;
+    let replaced = fill(&file, path, bytes).and_then(|()| fs::rename(&new, path));
+    if let Err(e) = replaced {
+        let _ = fs::remove_file(&new);
+        return Err(e);
+    }
+    if let Some(folder) = path.parent() {
+        File::open(folder)?.sync_all()?;
+    }
+    Identity::of(&file)
+}
+
+fn fill(mut file: &File, old: &Path, bytes: &[u8]) -> io::Result<()> {
+    file.write_all(bytes)?;
+    if let Ok(old) = fs::metadata(old) {
+        let _ = fchown(file, Some(old.uid()), Some(old.gid())); // only root can give a file away
+        file.set_permissions(old.permissions())?;
+    }
+    file.sync_all()
+}
+
+/// A new file beside another, by a name that nothing else has.
+fn create_beside(path: &Path) -> io::Result<(PathBuf, File)> {
+    let mut count = 0;
+    loop {
+        let new = beside(path, &format!(".{}-{count}.new", std::process::id()));
+        match File::options().write(true).create_new(true).open(&new) {
+            Err(e) if e.kind() == ErrorKind::AlreadyExists && count < 1000 => count += 1,
+            other => return other.map(|file| (new, file)),
+        }
+    }
+}
+
+/// Files beside another that `replace` didn't come to rename, since the server was killed.
+pub fn left_over(path: &Path) -> Vec<PathBuf> {
+    let (Some(folder), Some(name)) = (path.parent(), path.file_name()) else {
+        return Vec::new();
+    };
+    let name = name.to_string_lossy();
+    let is_left = |other: &str| {
+        let middle = other
+            .strip_prefix(&*name)
+            .and_then(|rest| rest.strip_prefix('.')?.strip_suffix(".new"));
+        middle.is_some_and(|m| m.starts_with(|c: char| c.is_ascii_digit()) && m.contains('-'))
+    };
+    let entries = fs::read_dir(folder).into_iter().flatten().flatten();
+    let mut left: Vec<PathBuf> = entries
+        .filter(|e| is_left(&e.file_name().to_string_lossy()))
+        .map(|e| e.path())
+        .collect();
+    left.sort();
+    left
+}

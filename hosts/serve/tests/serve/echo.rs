@@ -1,0 +1,129 @@
+//! Lines that hand back what they are given. The reply to an update is the update itself: served again, it would fill the journal.
+
+use crate::harness::{framed, Client, Folder, PAUSE};
+use crate::worked::{bytes, calibrated, preparation, prepare, updated, START, UPDATE};
+use serve::sys::open_pty;
+use std::process::Command;
+use std::thread::sleep;
+use std::time::Duration;
+
+const VERSION: ([u8; 6], [u8; 5]) = ([1, 3, 0, 0, 0, 1], [1, 3, 2, 0, 3]);
+/// Capacity and entries in use.
+const JOURNAL: [u8; 6] = [1, 3, 0, 7, 0, 2];
+/// At 300 baud a reply of 8 bytes takes 293 ms: with the silence, time enough for an echo on a busy machine.
+const SLOW: &str = "--speed 300 --parity none --silence 600";
+/// Longer than a reply and the silence, and longer than the silence before a reply.
+const SLOW_PAUSE: Duration = Duration::from_millis(1500);
+
+#[test]
+fn the_echo_of_a_device_is_dropped_and_told_once() {
+    let folder = Folder::new();
+    let (wire, device) = open_pty().unwrap();
+    let server = folder.serve(&format!("--device {} {SLOW} {START}", device.display()));
+    let mut client = Client(wire);
+    for (body, expected) in preparation() {
+        client.ask_with_echo(&body, &expected);
+    }
+    for count in 1..=2 {
+        client.ask_with_echo(&UPDATE, &UPDATE); // the second time it is a client's, and served
+        assert_eq!(client.receive(1, SLOW_PAUSE), []);
+        assert_eq!(folder.read("sonde.volume"), bytes(&updated(count)));
+    }
+    let message = "serve: the line hands back what is sent; it is dropped. --echo makes sure of it\n";
+    assert_eq!(server.stop("TERM"), (0, message.to_string()));
+}
+
+#[test]
+fn without_an_echo_a_request_may_be_repeated_after_the_silence() {
+    let folder = Folder::new();
+    let (wire, device) = open_pty().unwrap();
+    let server = folder.serve(&format!("--device {} {SLOW} {START}", device.display()));
+    let mut client = Client(wire);
+    prepare(&mut client); // each differs from the reply before it, so none is taken for its echo
+    for count in 1..=2 {
+        client.ask(&UPDATE, &UPDATE);
+        sleep(SLOW_PAUSE);
+        assert_eq!(folder.read("sonde.volume"), bytes(&updated(count)));
+    }
+    assert_eq!(server.stop("TERM"), (0, String::new()));
+}
+
+#[test]
+fn on_a_pseudo_terminal_a_request_may_be_repeated_at_once() {
+    let folder = Folder::new();
+    let server = folder.serve(START);
+    let mut client = server.client();
+    prepare(&mut client);
+    client.ask(&UPDATE, &UPDATE);
+    client.ask(&UPDATE, &UPDATE);
+    assert_eq!(folder.read("sonde.volume"), bytes(&updated(2)));
+}
+
+#[test]
+fn echo_waits_for_the_bytes_that_were_sent_and_drops_no_others() {
+    let folder = Folder::new();
+    let server = folder.serve(&format!("--echo {START}"));
+    let mut client = server.client();
+    for (body, expected) in preparation() {
+        client.ask_with_echo(&body, &expected);
+    }
+    client.ask(&UPDATE, &UPDATE);
+    sleep(PAUSE); // far longer than the silence: an adapter may hold it back
+    client.send(&framed(&UPDATE)[..3]);
+    sleep(Duration::from_millis(30));
+    client.send(&framed(&UPDATE)[3..]);
+    client.hears_nothing();
+    assert_eq!(folder.read("sonde.volume"), bytes(&calibrated()));
+
+    // Echo and next request together: only the echo goes.
+    client.ask(&JOURNAL, &[1, 3, 4, 0, 3, 0, 1]);
+    client.send(&[framed(&[1, 3, 4, 0, 3, 0, 1]), framed(&UPDATE)].concat());
+    assert_eq!(client.receive(8, Duration::from_secs(10)), framed(&UPDATE));
+    client.send(&framed(&UPDATE));
+    sleep(PAUSE);
+    assert_eq!(folder.read("sonde.volume"), bytes(&updated(2)));
+    assert_eq!(server.stop("TERM"), (0, String::new()));
+}
+
+#[test]
+fn echo_on_a_line_without_one_is_told_and_served() {
+    let folder = Folder::new();
+    let server = folder.serve("--echo");
+    let mut client = server.client();
+    for _ in 0..2 {
+        client.ask(&VERSION.0, &VERSION.1);
+        sleep(serve::line::PATIENCE + PAUSE);
+    }
+    let message = "serve: the line hands nothing back; it doesn't want --echo\n";
+    assert_eq!(server.stop("TERM"), (0, message.to_string()));
+}
+
+#[test]
+fn a_request_that_is_no_echo_is_told_and_served() {
+    let folder = Folder::new();
+    let server = folder.serve("--echo");
+    let mut client = server.client();
+    client.ask(&VERSION.0, &VERSION.1);
+    client.ask_with_echo(&JOURNAL, &[1, 3, 4, 3, 0xE8, 0, 0]);
+    let (_, said) = server.stop("TERM");
+    assert_eq!(
+        said,
+        "serve: the line hands back something else than was sent; it is taken for a request\n"
+    );
+}
+
+#[test]
+fn the_echo_of_a_pseudo_terminal_is_switched_off() {
+    let folder = Folder::new();
+    let server = folder.serve(START);
+    let mut client = server.client();
+    prepare(&mut client);
+    let mut stty = Command::new("stty");
+    stty.arg("-F").arg(&server.path).args(["raw", "echo", "-echoctl"]);
+    assert!(stty.status().unwrap().success());
+    client.ask(&UPDATE, &UPDATE);
+    client.hears_nothing();
+    assert_eq!(folder.read("sonde.volume"), bytes(&calibrated()));
+    let message = "serve: a client has switched on the pseudo-terminal's echo; it is off again\n";
+    assert_eq!(server.stop("TERM"), (0, message.to_string()));
+}
