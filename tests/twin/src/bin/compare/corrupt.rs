@@ -3,7 +3,7 @@
 use crate::both::Both;
 use crate::random::Random;
 use crate::values;
-use twin::calibration::{DIRECT, LEVEL, LIMITS};
+use twin::calibration::{DIRECT, LEVEL, LIMITS, ONE_POINT};
 use twin::map::PARAMETERS;
 use twin::state::Sonde;
 use twin::volume::{capacity, ENTRY_WORDS, HEADER_WORDS};
@@ -41,6 +41,7 @@ pub enum Corruption {
     EntryTime,
     EntryCoefficient,
     EntryPoint,
+    LevelByPoint,
     FreeWord,
     SwappedLinks,
     ForeignLink,
@@ -77,7 +78,7 @@ pub const OF_SONDE: [Corruption; 16] = [
 ];
 
 /// Those that change the volume, or how much of it is lent.
-pub const OF_VOLUME: [Corruption; 26] = [
+pub const OF_VOLUME: [Corruption; 27] = [
     Version,
     CapacityWord,
     InUse,
@@ -93,6 +94,7 @@ pub const OF_VOLUME: [Corruption; 26] = [
     EntryTime,
     EntryCoefficient,
     EntryPoint,
+    LevelByPoint,
     FreeWord,
     SwappedLinks,
     ForeignLink,
@@ -123,6 +125,15 @@ impl Corruption {
     /// Whether the sonde or the volume stays valid by itself.
     pub fn disagreement(self) -> bool {
         matches!(self, ActiveBit | ActiveTime | OpeningTime | EntryTime)
+    }
+
+    /// Whether a volume so changed is invalid by itself; `None` where it can be either.
+    pub fn invalid(self) -> Option<bool> {
+        match self {
+            _ if self.harmless() || self.disagreement() => Some(false),
+            _ if self.uncertain() => None,
+            _ => Some(true),
+        }
     }
 }
 
@@ -213,6 +224,7 @@ fn corrupt_words(volume: &mut [u16], corruption: Corruption, random: &mut Random
     let in_use = usize::from(volume[2]);
     match corruption {
         AnyLength if random.chance(70) => {}
+        WordLonger | WordShorter | EntryLonger | EntryShorter => {}
         AnyWords | AnyLength => any_words(volume, random),
         FreeWord => return corrupt_free_word(volume, in_use, random),
         Version => change(&mut volume[0], random),
@@ -301,11 +313,22 @@ fn corrupt_entry(entry: &mut [u16], in_use: usize, corruption: Corruption, rando
         EntryTime => change(&mut entry[random.between(4, 5)], random),
         EntryCoefficient => change(&mut entry[random.between(6, 11)], random),
         EntryPoint => change(&mut entry[random.between(12, 19)], random),
+        LevelByPoint if entry[1] != 3 => return false,
+        LevelByPoint => make_by_point(entry),
         NotFromPoints if method == DIRECT => return false,
         NotFromPoints => entry[random.pick(&[7, 9])] ^= 1,
         _ => return negate_zero(entry, random),
     }
     true
+}
+
+/// Makes an entry one of method 1, with all that this asks: x1 is 1, and y1 coefficient 2.
+fn make_by_point(entry: &mut [u16]) {
+    entry[2] = ONE_POINT;
+    entry[6..8].fill(0);
+    entry[10..12].fill(0);
+    entry[12..14].copy_from_slice(&[0x3F80, 0]);
+    entry.copy_within(8..10, 14);
 }
 
 /// Makes a float that has to be +0.0 a -0.0.

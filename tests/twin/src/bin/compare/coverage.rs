@@ -117,6 +117,11 @@ pub enum Item {
         call: Kind,
         number: u8,
     },
+    /// A corrupted volume by itself, and whether it has a fault to name.
+    Fault {
+        corruption: Corruption,
+        named: bool,
+    },
 }
 
 #[derive(Default)]
@@ -386,6 +391,7 @@ fn required() -> Vec<Item> {
     items.extend(required_updates());
     items.extend(required_readings());
     items.extend(required_corruptions());
+    items.extend(required_faults());
     items
 }
 
@@ -408,6 +414,15 @@ fn required_corruptions() -> Vec<Item> {
         });
     }
     items
+}
+
+/// Each corruption of a volume with a fault, without one, or both.
+fn required_faults() -> impl Iterator<Item = Item> {
+    let each = OF_VOLUME
+        .into_iter()
+        .flat_map(|corruption| [(corruption, false), (corruption, true)]);
+    each.filter(|(corruption, named)| corruption.invalid().is_none_or(|invalid| invalid == *named))
+        .map(|(corruption, named)| Item::Fault { corruption, named })
 }
 
 fn required_answers() -> Vec<Item> {

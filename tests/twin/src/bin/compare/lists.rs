@@ -6,7 +6,9 @@ use crate::convert::settings_difference;
 use crate::corrupt::{corrupt_sonde, corrupt_volume, Corruption, OF_SONDE, OF_VOLUME};
 use crate::coverage::{Before, Coverage, Item};
 use crate::generate::{makes_sonde, Generator};
+use crate::library;
 use crate::random::Random;
+use serve::fault;
 use std::collections::VecDeque;
 use twin::book::Book;
 use twin::map::{ENTER, UPDATE};
@@ -35,6 +37,8 @@ pub struct Lists {
     comparison: Comparison,
     pub coverage: Coverage,
     pub calls: u64,
+    /// Volumes whose fault was held to the verdict on them.
+    pub volumes: u64,
     words: Vec<u16>,
 }
 
@@ -45,6 +49,7 @@ impl Lists {
             comparison: Comparison::new(),
             coverage: Coverage::default(),
             calls: 0,
+            volumes: 0,
             words: Vec::new(),
         }
     }
@@ -84,7 +89,43 @@ impl Lists {
         if self.comparison.agreed {
             self.coverage.note_registers(&both.twin, &self.comparison.registers);
         }
+        self.hold_fault_after(both, call, answer)
+            .map_err(|difference| format!("{call}\n{difference}"))?;
         Ok(answer)
+    }
+
+    /// Where the call, or the registers read back after it, tell whether the volume is valid.
+    fn hold_fault_after(&mut self, both: &Both, call: &Call, answer: Answer) -> Result<(), String> {
+        match *call {
+            Call::PowerUp { words, .. } if answer.number != 1 => self.hold_fault(&both.library_volume[..words], answer.number),
+            _ if self.comparison.agreed => self.hold_fault(&both.library_volume[..both.lent], 0),
+            _ => Ok(()),
+        }
+    }
+
+    /// The serial host names a fault exactly where power-up refuses the volume, and of words that the volume has.
+    fn hold_fault(&mut self, volume: &[u16], number: u8) -> Result<(), String> {
+        self.volumes += 1;
+        let fault = fault::first(volume);
+        if fault.is_some() != (number == 4) || fault.as_ref().is_some_and(|fault| fault.words.end > volume.len()) {
+            return Err(format!(
+                "the fault named isn't power-up's\n  power-up: {number}\n  fault:    {fault:?}"
+            ));
+        }
+        Ok(())
+    }
+
+    /// The fault of a volume that was corrupted, by itself.
+    fn hold_corrupted(&mut self, copy: &Both, corruption: Corruption) -> Result<(), String> {
+        let volume = &copy.library_volume[..copy.lent];
+        let number = library::power_up(1, volume).number;
+        self.hold_fault(volume, number)?;
+        let named = number == 4;
+        self.coverage.note(Item::Fault { corruption, named });
+        if corruption.invalid().is_some_and(|invalid| invalid != named) {
+            return Err(format!("power-up gives {number}"));
+        }
+        Ok(())
     }
 
     /// A step of a clean list, which the book follows.
@@ -181,10 +222,17 @@ impl Lists {
             self.followed_step(&mut both, &mut book, &call, generator)
                 .map_err(|difference| format!("when full: {difference}"))?;
         }
+        self.corrupted_full(both, generator)
+    }
+
+    /// Corrupts copies of a journal of 1000 entries. Here alone a length of an entry more or less can leave the capacity as it is.
+    fn corrupted_full(&mut self, mut both: Both, generator: &mut Generator) -> Result<(), String> {
         for _ in 0..100 {
             self.corrupted_step(&both, generator)?;
         }
-        Ok(())
+        self.corrupted_by(Corruption::EntryLonger, &both, generator)?;
+        both.lent += ENTRY_WORDS;
+        self.corrupted_by(Corruption::EntryShorter, &both, generator)
     }
 
     fn corrupted(&mut self, generator: &mut Generator) -> Result<(), String> {
@@ -214,18 +262,25 @@ impl Lists {
 
     /// Calls on a copy with something wrong.
     fn corrupted_step(&mut self, both: &Both, generator: &mut Generator) -> Result<(), String> {
-        let mut copy = both.clone();
         let corruption = if generator.random.chance(40) {
             generator.random.pick(&OF_SONDE)
         } else {
             generator.random.pick(&OF_VOLUME)
         };
+        self.corrupted_by(corruption, both, generator)
+    }
+
+    fn corrupted_by(&mut self, corruption: Corruption, both: &Both, generator: &mut Generator) -> Result<(), String> {
+        let mut copy = both.clone();
         if !corrupt(&mut copy, corruption, &mut generator.random) {
             return Ok(());
         }
+        let failed = |difference| format!("corrupted by {corruption:?}: {difference}");
+        if OF_VOLUME.contains(&corruption) {
+            self.hold_corrupted(&copy, corruption).map_err(failed)?;
+        }
         let calls = [Call::Audit { words: copy.lent }, call_on_wrong(&copy, corruption, generator)];
         for call in &calls {
-            let failed = |difference| format!("corrupted by {corruption:?}: {difference}");
             let Answer { number, .. } = self.step(&mut copy, call, &mut generator.random).map_err(failed)?;
             self.coverage.note(Item::Corrupted {
                 corruption,

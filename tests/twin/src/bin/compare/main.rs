@@ -1,7 +1,8 @@
 //! Runs seeded lists of calls on the proved library and on the twin and compares, after each call: number and length, the whole reply
 //! buffer (filled with random bytes beforehand), the whole volume (its free words too), every field of the sonde bit for bit, and every
 //! register of the map, read by frames on copies. Clean lists are also held to the control book (demand 3); lists of corrupted sondes and
-//! volumes are apart. At the end the run has to have met everything that `coverage` requires.
+//! volumes are apart. Wherever it is known whether a volume is valid, the fault that the serial host names is held to that. At the end the
+//! run has to have met everything that `coverage` requires.
 
 mod both;
 mod calls;
@@ -116,13 +117,14 @@ fn report(shares: &[Lists]) -> ExitCode {
     shares.iter().for_each(|lists| coverage.merge(&lists.coverage));
     let calls: u64 = shares.iter().map(|lists| lists.calls).sum();
     let registers: u64 = shares.iter().map(Lists::registers).sum();
+    let volumes: u64 = shares.iter().map(|lists| lists.volumes).sum();
     let (table, missing) = coverage.report();
     print!("{table}");
     if calls >= COVERING_CALLS && !missing.is_empty() {
         missing.iter().for_each(|item| println!("never met: {item:?}"));
         return ExitCode::FAILURE;
     }
-    println!("{calls} calls and {registers} registers compared, no difference");
+    println!("{calls} calls and {registers} registers compared, faults asked of {volumes} volumes, no difference");
     ExitCode::SUCCESS
 }
 
