@@ -1,5 +1,5 @@
 /*
- * libmodbus before|after DEVICE: one line for each step, exit status 1 where one went wrong.
+ * libmodbus before|after DEVICE: one line for each step, exit status 1 where one went wrong. libmodbus floats: what its setter makes of 1.0.
  *
  * libmodbus gives exceptions 1 to 11 an errno of their own. Any other code, such as 0x92, is EMBBADEXC ('Invalid exception code') without its number,
  * so these are also asked for as raw frames, whose reply holds the code.
@@ -87,6 +87,20 @@ static void refused_by(uint8_t code, int at, uint16_t word, const char *what) {
 static void parameter(int at, float value, uint16_t id, uint16_t units, uint16_t quality, uint16_t available, const char *what) {
     reads_floats(at, FLOATS(value), what);
     reads(at + 2, WORDS(id, units, quality, 0, 0, available), "id, units, quality, sentinel 0.0, available units of the last");
+}
+
+/* What libmodbus makes of a float, beside the words made here. docs/REGISTERS.md says so. */
+static void floats(void) {
+    uint16_t one[] = {0x3F80, 0x0000}, swapped[] = {0x0000, 0x3F80}, got[2];
+    result(modbus_get_float_abcd(one) == 1.0f, "modbus_get_float_abcd takes the high word first");
+    result(modbus_get_float(swapped) == 1.0f, "modbus_get_float takes the low word first");
+    modbus_set_float(1.0f, got);
+    result(memcmp(got, swapped, sizeof got) == 0, "modbus_set_float gives the low word first");
+    if (strcmp(LIBMODBUS_VERSION_STRING, "3.1.6") != 0 || __BYTE_ORDER__ != __ORDER_LITTLE_ENDIAN__) return;
+    modbus_set_float_abcd(1.0f, got);
+    result(memcmp(got, one, sizeof got) != 0, "modbus_set_float_abcd of 3.1.6 is wrong");
+    modbus_set_float_badc(1.0f, got);
+    result(memcmp(got, one, sizeof got) == 0, "modbus_set_float_badc of 3.1.6 gives the high word first");
 }
 
 static void map(void) {
@@ -178,6 +192,12 @@ static void full(void) {
 }
 
 int main(int argc, char **argv) {
+    if (argc == 2 && strcmp(argv[1], "floats") == 0) {
+        uint16_t got[2];
+        modbus_set_float_abcd(1.0f, got);
+        printf("version %s: 1.0 becomes 0x%04X 0x%04X\n", LIBMODBUS_VERSION_STRING, got[0], got[1]);
+        return 0;
+    }
     if (argc != 3) return 2;
     line = modbus_new_rtu(argv[2], 19200, 'N', 8, 2); /* a pseudo-terminal has no parity */
     if (!line || modbus_set_slave(line, ADDRESS) == -1 || modbus_connect(line) == -1) {
@@ -186,6 +206,7 @@ int main(int argc, char **argv) {
     }
     modbus_set_response_timeout(line, 5, 0);
     if (strcmp(argv[1], "before") == 0) {
+        floats();
         map();
         writing();
         refusing();

@@ -1,7 +1,7 @@
 /*
- * Plays the dialogue of a document through the library: lines "    @ SECONDS" set the clock, "    > BYTES" is a frame and "    < BYTES" its
- * reply ("    <" alone: none). The sonde is fresh with address 1, its volume has 136 words. Prints the volume as docs/ARCHIVE.md shows it; the
- * exit status is 1 where a reply differs or the document has no dialogue.
+ * play DOCUMENT FILE: plays the dialogue of a document through the library: lines "    @ SECONDS" set the clock, "    > BYTES" is a frame and
+ * "    < BYTES" its reply ("    <" alone: none). The sonde is fresh with address 1, its volume has 136 words. Prints the volume as docs/ARCHIVE.md
+ * shows it, and writes it to the file as ./serve does; the exit status is 1 where a reply differs or the document has no dialogue.
  */
 #include <stdio.h>
 #include <stdlib.h>
@@ -26,9 +26,9 @@ static size_t bytes_of(const char *text, uint8_t *bytes) {
 }
 
 int main(int count, char **arguments) {
-    FILE *document = count == 2 ? fopen(arguments[1], "r") : NULL;
-    if (document == NULL) {
-        fprintf(stderr, "play: give one document that can be read\n");
+    FILE *document = count == 3 ? fopen(arguments[1], "r") : NULL, *file = count == 3 ? fopen(arguments[2], "w") : NULL;
+    if (document == NULL || file == NULL) {
+        fprintf(stderr, "play: give a document that can be read and a file that can be written\n");
         return 2;
     }
     SondeMade made = sonde_fresh(1);
@@ -59,6 +59,8 @@ int main(int count, char **arguments) {
     }
     fclose(document);
     if (sonde_audit(sonde, volume, WORDS).number != SONDE_OK) differs = 1;
+    for (int i = 0; i < WORDS; i++) fprintf(file, "%c%c", volume[i] >> 8, volume[i] & 0xFF);
+    if (fclose(file) != 0) return 2;
     for (int i = 0; i < WORDS; i++) printf("%s%04X%s", i % 8 == 0 ? "    " : " ", volume[i], i % 8 == 7 ? "\n" : "");
     fprintf(stderr, "play: %zu replies compared\n", played);
     return differs || played == 0;

@@ -1,0 +1,655 @@
+"""documents.py DESK REGISTERS ARCHIVE: what the two manuals state, tried on the library behind DESK (desk.c).
+
+One line for each check, exit status 1 where one failed. A check reads the manual's table or sentence and asks the library for the same, so it fails
+where the manual says something else, and where it says nothing."""
+
+import re
+import struct
+import subprocess
+import sys
+from fractions import Fraction
+from math import floor
+
+CLOCK = 1767225600
+INFINITY = [0x7F80, 0]
+SENSORS = range(1, 5)
+PARAMETERS = (130, 138, 146, 230, 330, 338, 430)
+
+
+# ---- floats and words
+
+
+def words_of(value):
+    return list(struct.unpack(">HH", struct.pack(">f", value)))
+
+
+def float_of(words):
+    return struct.unpack(">f", struct.pack(">HH", *words))[0]
+
+
+def f32(value):
+    """The nearest binary32."""
+    return float_of(words_of(float(value)))
+
+
+def beyond(value, step):
+    """The next binary32 above (step 1) or below (step -1)."""
+    if value == 0:
+        return float_of([0x0000 if step > 0 else 0x8000, 1])
+    bits = struct.unpack(">i", struct.pack(">f", value))[0]
+    return struct.unpack(">f", struct.pack(">i", bits + (step if value > 0 else -step)))[0]
+
+
+def hexadecimal(numbers, digits):
+    return " ".join(f"{number:0{digits}X}" for number in numbers)
+
+
+# ---- the manuals
+
+
+class Manual:
+    def __init__(self, path):
+        with open(path, encoding="utf-8") as file:
+            self.text = file.read()
+
+    def table(self, *header):
+        """The rows of the table whose first columns have these names."""
+        start = "| " + " | ".join(header) + " |"
+        lines = iter(self.text.splitlines())
+        if not any(line.startswith(start) for line in lines):
+            raise AssertionError(f"there is no table with {start}")
+        next(lines)
+        rows = []
+        for line in lines:
+            if not line.startswith("|"):
+                return rows
+            rows.append([cell.strip() for cell in line.strip("|").split("|")])
+        return rows
+
+    def says(self, pattern):
+        """What a sentence gives for the groups of a pattern; line ends are spaces."""
+        found = re.search(pattern, re.sub(r"\s+", " ", self.text))
+        assert found, f"nothing says: {pattern}"
+        return found.groups()
+
+    def worked(self):
+        lines = re.findall(r"^    ((?:[0-9A-F]{4} ){7}[0-9A-F]{4})$", self.text, re.M)
+        return [int(word, 16) for line in lines for word in line.split()]
+
+
+def number(text):
+    return int(text, 0)
+
+
+def numbers(text):
+    """The numbers of "10..11" or "6"."""
+    first, _, last = text.replace("+", "").partition("..")
+    return list(range(int(first), int(last or first) + 1))
+
+
+def codes(text):
+    return [number(code) for code in re.findall(r"0x[0-9A-F]{2}\b", text)]
+
+
+# ---- the library
+
+
+def crc(data, reflected=0xA001, initial=0xFFFF):
+    value = initial
+    for byte in data:
+        value ^= byte
+        for _ in range(8):
+            value = (value >> 1) ^ (reflected if value & 1 else 0)
+    return value
+
+
+class Desk:
+    def __init__(self, path):
+        self.pipe = subprocess.Popen([path], stdin=subprocess.PIPE, stdout=subprocess.PIPE, text=True)
+
+    def ask(self, *lines):
+        """The answers to a few lines."""
+        self.pipe.stdin.write("".join(f"{line}\n" for line in lines))
+        self.pipe.stdin.flush()
+        return [self.pipe.stdout.readline().strip() for _ in lines]
+
+    def call(self, line):
+        """The number that a call gives."""
+        return int(self.ask(line)[0])
+
+    def fresh(self, words=136):
+        assert self.call("fresh 1") == 0 and self.call(f"begin {words}") == 0
+
+    def measure(self, sensor, raw1, raw2=0.0, present=True):
+        first, second = (hexadecimal([bits], 8) for bits in struct.unpack(">II", struct.pack(">ff", raw1, raw2)))
+        assert self.call(f"measure {sensor} {int(present)} {first} {second}") == 0
+
+    def load(self, words):
+        assert self.call(f"load {hexadecimal(words, 4)}") == 0
+
+    def words(self):
+        return [int(word, 16) for word in self.ask("words")[0].split()]
+
+    def frame(self, *body, clock=CLOCK):
+        """The reply's bytes to a body, without its checksum."""
+        return self.frames([body], clock)[0]
+
+    def frames(self, bodies, clock=CLOCK):
+        replies = []
+        for answer in self.ask(*(f"frame {clock} {hexadecimal(sealed(body), 2)}" for body in bodies)):
+            refused, *reply = (int(byte, 16) for byte in answer.split())
+            assert refused == 0
+            assert sealed(reply[:-2]) == reply, "the reply's checksum"
+            replies.append(reply[:-2])
+        return replies
+
+    def read(self, start, count=1):
+        """The words, or a code."""
+        reply = self.frame(1, 3, *two(start), *two(count))
+        return reply[2] if reply[1] & 0x80 else [high * 256 + low for high, low in zip(reply[3::2], reply[4::2])]
+
+    def write(self, start, *words, clock=CLOCK):
+        """0, or a code. One word goes by function 6, more by function 16."""
+        body = [1, 6, *two(start), *two(words[0])]
+        if len(words) > 1:
+            body = [1, 16, *two(start), *two(len(words)), 2 * len(words), *(byte for word in words for byte in two(word))]
+        reply = self.frame(*body, clock=clock)
+        return reply[2] if reply[1] & 0x80 else 0
+
+    def calibrate(self, sensor, coefficients=(), method=0, points=(), clock=CLOCK):
+        """Mode on, what is given, update: 0, or the update's code. Mode stays on."""
+        at = 100 * sensor
+        assert self.write(at + 5, 0xE000) == 0
+        if method:
+            assert self.write(at + 6, method) == 0
+        for k, value in enumerate(coefficients):
+            assert self.write(at + 10 + 2 * k, *words_of(value)) == 0
+        for k, words in enumerate(points):
+            assert self.write(at + 16 + 2 * k, *words) == 0
+        return self.write(at + 5, 0xE001, clock=clock)
+
+
+def two(word):
+    return [word >> 8, word & 0xFF]
+
+
+def sealed(body):
+    checksum = crc(body)
+    return [*body, checksum & 0xFF, checksum >> 8]
+
+
+def equal(got, expected, what):
+    assert got == expected, f"{what}: {got} instead of {expected}"
+
+
+# ---- docs/REGISTERS.md
+
+
+def checksum(desk, registers, _):
+    polynomial, reflected, initial, text, value = registers.says(
+        r"polynomial (0x\w+) \(reflected (0x\w+)\), initial value (0x\w+), no final xor; of the text \"(\w+)\" it is (0x\w+)"
+    )
+    equal(int(f"{number(polynomial):016b}"[::-1], 2), number(reflected), "the reflected polynomial")
+    for data, expected in ((text.encode(), number(value)), ([1, 3, 0, 0, 0, 1], crc([1, 3, 0, 0, 0, 1]))):
+        equal(crc(data, number(reflected), number(initial)), expected, "a checksum")
+    registers.says("ends with its CRC-16, low byte first")
+
+
+def size_of(text, count):
+    """The number of "8" or "9 + 2 × count"."""
+    terms = [term.split(" × ") for term in text.split(" + ")]
+    return sum(int(first) * (count if then == ["count"] else 1) for first, *then in terms)
+
+
+def parts_of(layout, given):
+    """The bytes of a layout such as "address (1), words (2 × count)", with what is given for each part."""
+    out = []
+    for part in layout.split(", "):
+        name, size = re.fullmatch(r"(.+) \((.+)\)", part).groups()
+        value = given[name]
+        if name == "CRC":
+            value = crc(out)
+            value = value >> 8 | (value & 0xFF) << 8
+        if isinstance(value, list):
+            value = int("".join(f"{word:04X}" for word in value), 16)
+        out += value.to_bytes(size_of(size, given.get("count")), "big")
+    return out
+
+
+def layouts(desk, registers, _):
+    desk.fresh()
+    assert desk.write(205, 0xE000) == 0
+    one, both = [CLOCK >> 16, CLOCK & 0xFFFF, 0, 0, 0], [0x3F90, 0]
+    played = {
+        "3": {"start": 2, "count": 5, "words": one},
+        "6": {"register": 206, "word": 2},
+        "16": {"start": 212, "count": 2, "words": both},
+        "22": {"register": 206, "A": 0, "B": 1},
+        "refused": {"function": 6, "register": 0, "word": 5, "code": 0xC2, "function with 0x80 set": 0x86},
+    }
+    rows = registers.table("Function", "Request", "Length", "Reply", "Length")
+    equal(list(played), [row[0] for row in rows], "functions")
+    six = next(row for row in rows if row[0] == "6")
+    for function, request, length, reply, reply_length in rows:
+        given = {"address": 1, "function": int(function) if function != "refused" else 6, **played[function], "CRC": 0}
+        given["byte count"] = 2 * given.get("count", 0)
+        if function == "3":  # the counters are those before the frame
+            given["words"] = one[:2] + desk.read(4, 3)
+            given["words"][2] += 1
+        if function == "refused":
+            request, length = six[1], six[2]
+        request = parts_of(request, given)
+        reply = request if reply == "as the request" else parts_of(reply, given)
+        for text, frame in ((length, request), (reply_length, reply)):
+            equal(len(frame), size_of(text, given.get("count")), f"the length of {function}")
+        answer = desk.ask(f"frame {CLOCK} {hexadecimal(request, 2)}")[0]
+        equal(answer, f"0 {hexadecimal(reply, 2)}", f"the reply to {function}")
+    equal(desk.read(206), [1], "what function 22 wrote")
+    equal(desk.read(212, 2), both, "what function 16 wrote")
+
+
+def order(desk, registers, _):
+    """For each two neighbours in the table of exceptions a frame that both fit: the upper one is answered."""
+    rows = registers.table("Code", "When")
+    listed = [number(row[0]) for row in rows]
+    desk.fresh(88)
+    equal(desk.calibrate(1), 0, "an update into the last entry")
+    assert desk.write(206, 1) == 0x92 and desk.write(205, 0xE000) == 0 and desk.write(206, 1) == 0
+    for first, then, body in (
+        (1, 3, [1, 4, 0]),
+        (3, 2, [1, 3, 0, 9, 0, 0]),
+        (2, 0x80, [1, 16, 0, 8, 0, 2, 4, 0, 0, 0, 0]),
+        (0x80, 0xC2, [1, 6, 0, 2, 0, 0]),
+        (0xC2, None, [1, 6, 0, 0, 0, 0]),
+        (0x92, 0x84, [1, 16, 1, 0x9A, 0, 2, 4, 0x7F, 0x80, 0, 0]),
+        (0x84, None, [1, 6, 0, 0x69, 0xE0, 3]),
+        (0x97, 0xC0, [1, 6, 0, 0xCD, 0xE0, 1]),
+        (0xC0, None, [1, 6, 0, 0x69, 0xE0, 1]),
+    ):
+        equal(desk.frame(*body)[2], first, f"the code of {hexadecimal(body, 2)}")
+        assert listed.index(first) < (len(listed) if then is None else listed.index(then)), f"{then:#x} stands above {first:#x}"
+    equal(len(listed), 9, "the number of codes")
+
+
+def past_the_end(desk, registers, _):
+    code, = (number(row[0]) for row in registers.table("Code", "When") if "past 0xFFFF" in row[1])
+    desk.fresh()
+    equal(desk.read(0xFFFF, 2), code, "a read past 0xFFFF")
+    equal(desk.write(0xFFFF, 0, 0), code, "a write past 0xFFFF")
+
+
+def fields(registers):
+    """Every field of the manual: register, words, type, access, codes of a write, what it is."""
+    for register, kind, what in registers.table("Register", "Type", "What it shows"):
+        yield numbers(register), kind, "R", [0xC2], what
+    for offset, kind, access, sensors, what, given in registers.table("Offset", "Type", "Access", "Sensors"):
+        for sensor in SENSORS if sensors == "all" else map(int, sensors.split(", ")):
+            yield [100 * sensor + n for n in numbers(offset)], kind, access, codes(given), what
+    for sensor, k, *_ in registers.table("Sensor", "k", "Parameter"):
+        start = 100 * int(sensor) + 30 + 8 * (int(k) - 1)
+        for offset, kind, access, what, given in registers.table("From there", "Type", "Access"):
+            if "(W: level)" in access:
+                level = sensor == "3" and k == "2"
+                access, given = ("W", given.partition("level:")[2]) if level else ("R", given.partition("(")[0])
+            yield [start + n for n in numbers(offset)], kind, access, codes(given), what
+
+
+def existing(desk, registers, _):
+    """The registers that a read finds, of all 65536, are those of the tables."""
+    desk.fresh()
+    listed = sorted(register for field in fields(registers) for register in field[0])
+    found = []
+    for start in range(0, 0x10000, 256):
+        replies = desk.frames([[1, 3, *two(register), 0, 1] for register in range(start, start + 256)])
+        found += [start + n for n, reply in enumerate(replies) if reply[1] == 3]
+    equal(found, listed, "the registers")
+
+
+def access(desk, registers, _):
+    """Types, access and codes: each field is written whole, in half, with values that aren't listed, mode off and on."""
+    for at, kind, letter, given, what in fields(registers):
+        name = f"register {at[0]}, {what}"
+        equal(len(at), {"word": 1, "float": 2, "time": 2}[kind], name)
+        desk.fresh()
+        if at[0] >= 100:
+            desk.measure(at[0] // 100, 1.0)
+        command, mode = "command" in what, at[0] // 100 * 100 + 5
+        old = desk.read(at[0], len(at))
+        assert isinstance(old, list), name
+        seen = set()
+        if len(at) == 2:
+            equal(desk.write(at[0], 0), 0x80, f"{name}, one half")
+            equal(desk.write(at[1], 0), 0x80, f"{name}, one half")
+        if letter == "M":
+            equal(desk.write(at[0], *old), 0x92, f"{name}, mode off")
+            seen.add(0x92)
+            assert desk.write(mode, 0xE000) == 0
+        if command:
+            seen.add(desk.write(at[0], 0xE001))
+            assert desk.write(at[0], 0xE000) == 0 and desk.read(at[0]) == [1]
+            seen |= refused_updates(desk, at[0] // 100)
+            desk.fresh()
+        bad = desk.write(at[0], *{"word": [0xFFFF], "float": INFINITY, "time": [0xFFFF, 0xFFFF]}[kind])
+        if letter != "R":
+            equal(bad, 0 if kind == "time" else 0x84, f"{name}, a {kind} that isn't listed or finite")
+        seen.add(bad)
+        good = desk.write(at[0], *([0xE000] if command else old))
+        equal(good == 0, letter in "WM", f"{name}, {letter}")
+        seen.add(good)
+        equal(sorted(seen - {0}), sorted(given), f"{name}, what a write gives")
+
+
+def refused_updates(desk, sensor):
+    """The codes of an update with a candidate outside the limits, and of one with a full journal."""
+    desk.fresh(88)
+    outside = desk.calibrate(sensor, [1e6])
+    desk.fresh(88)
+    assert desk.calibrate(sensor) == 0
+    return {outside, desk.write(100 * sensor + 5, 0xE001)}
+
+
+def parameters(desk, registers, _):
+    """Ids, units, conversions, available units and defaults."""
+    desk.fresh()
+    level_default, = registers.says(r"of the level (\d) depth \(default\), 4 depth to water or 5 surface elevation")
+    sentinel, = registers.says(r"sentinel, default ([0-9.]+)")
+    bases = [int(base) for base in re.findall(r"\d+", registers.says(r"is the units id n above ([0-9, or]+)")[0])]
+    raws = {1: (1234.5, 20.0), 2: (8.0, 0.0), 3: (14.7, 0.0), 4: (5.0, 0.0)}
+    for sensor, raw in raws.items():
+        desk.measure(sensor, *raw)
+    rows = registers.table("Sensor", "k", "Parameter", "Id", "Units (the first is the default)", "Available")
+    for sensor, k, name, ids, units, available in rows:
+        at = 100 * int(sensor) + 30 + 8 * (int(k) - 1)
+        ids = [int(n) for n in re.findall(r"\d+", ids)]
+        units = [re.fullmatch(r"(\d+) (\S+)(?: = psi × ([0-9.]+))?", unit).groups() for unit in units.split(", ")]
+        listed = [int(unit[0]) for unit in units]
+        id_, unit, quality, high, low, bits = desk.read(at + 2, 6)
+        equal(id_, int(level_default) if name == "level" else ids[0], f"{name}, id")
+        equal(unit, listed[0], f"{name}, default units")
+        equal(quality, 0, f"{name}, quality")
+        equal(float_of([high, low]), float(sentinel), f"{name}, sentinel")
+        equal(bits, number(available), f"{name}, available units")
+        equal(bits, sum(1 << n - max(base for base in bases if base <= n) for n in listed), f"{name}, bits of its units")
+        equal([n for n in range(300) if desk.write(at + 3, n) == 0], listed, f"{name}, units")
+        assert desk.write(at + 3, listed[0]) == 0
+        if len(ids) > 1:
+            equal([n for n in range(300) if desk.write(at + 2, n) == 0], ids, f"{name}, ids")
+            assert desk.write(at + 2, ids[0]) == 0
+        value = float_of(desk.read(at, 2))
+        for unit, symbol, factor in units:
+            assert desk.write(at + 3, int(unit)) == 0
+            expected = f32(value * f32(factor)) if factor else f32(f32(value * f32(1.8)) + 32) if symbol == "°F" else value
+            equal(float_of(desk.read(at, 2)), expected, f"{name} in {symbol}")
+    equal(desk.read(107) + desk.read(207) + desk.read(307) + desk.read(407), [3, 1, 2, 1], "numbers of parameters")
+    equal(sorted((int(row[0]), int(row[1])) for row in rows), [(1, 1), (1, 2), (1, 3), (2, 1), (3, 1), (3, 2), (4, 1)], "parameters")
+
+
+def bounds(cells):
+    """(default or None, lowest, highest) of each coefficient of a table's row; None for +0."""
+    for cell in cells:
+        found = re.search(r"(?: (-?[0-9.]+), |\()(-?[0-9.]+?)\.\.(-?[0-9.]+)", cell)
+        yield found and tuple(n and float(n) for n in found.groups())
+
+
+def limits(desk, registers, archive):
+    """Defaults, and both limits of each coefficient with its two neighbours. The two manuals' limits are the same."""
+    rows = registers.table("Sensor", "Coefficient 1 (default, limits)")
+    others = archive.table("Sensor", "Raw value", "Reading")
+    equal([int(row[0]) for row in rows], list(SENSORS), "sensors")
+    for (sensor, *cells), other in zip(rows, others):
+        listed = list(bounds(cells))
+        equal([b and b[1:] for b in bounds(other[3:])], [b and b[1:] for b in listed], f"sensor {sensor}, limits of docs/ARCHIVE.md")
+        start = [b[0] for b in listed if b]
+        desk.fresh()
+        equal([float_of(desk.read(100 * int(sensor) + 10 + 2 * k, 2)) for k in range(len(start))], start, f"sensor {sensor}, defaults")
+        for k, (_, low, high) in enumerate(b for b in listed if b):
+            for limit, step in ((f32(low), -1), (f32(high), 1)):
+                for value, code in ((limit, 0), (beyond(limit, -step), 0), (beyond(limit, step), 0x97)):
+                    desk.fresh()
+                    got = desk.calibrate(int(sensor), start[:k] + [value] + start[k + 1 :])
+                    equal(got, code, f"sensor {sensor}, coefficient {k + 1} = {value!r}")
+
+
+def readings(desk, registers, _):
+    """What isn't finite: an infinite conductivity, and a pressure whose conversion alone overflows."""
+    quality, = registers.says(r"resistivity goes by the conductivity, and is quality (\d) where that is infinite")
+    registers.says("the level goes by the pressure in psi, and an overflow of the pressure's conversion doesn't touch it")
+    desk.fresh()
+    equal(desk.calibrate(1, [0.0, 4.0]), 0, "the calibration")
+    assert desk.write(105, 0xE002) == 0
+    desk.measure(1, 3e38)
+    equal(desk.read(142) + desk.read(150), [int(quality)] * 2, "qualities of conductivity and resistivity")
+    assert desk.write(151, *words_of(-1.0)) == 0
+    equal(desk.read(146, 2), words_of(-1.0), "the resistivity, which is its sentinel")
+    desk.measure(3, 3e38)
+    assert desk.write(333, 21) == 0
+    equal(desk.read(334) + desk.read(342), [3, 0], "qualities of pressure and level")
+
+
+def calibration(desk, registers, _):
+    """Points that give no candidate, and what an update leaves."""
+    code, = registers.says(r"x1 = 0 by method 1 and x1 = x2 by method 2 are refused \((0x97)\)")
+    registers.says("x is the raw value, as the sonde shows it in mode, and y the standard's value")
+    for method, x1, x2 in ((1, 0.0, 0.0), (1, -0.0, 0.0), (2, 5.0, 5.0), (2, 0.0, -0.0)):
+        desk.fresh()
+        points = [words_of(value) for value in (x1, 1.0, x2, 2.0)]
+        equal(desk.calibrate(4, [], method, points), number(code), f"method {method}, x1 = {x1}, x2 = {x2}")
+    update = next(row[1] for row in registers.table("Command", "What it does") if row[0] == "0xE001")
+    for words in ("becomes the trial too", "show it at once", "Last calibration is the clock", "next becomes 0", "method, points and mode stay"):
+        assert words in update, f"the update's row doesn't say: {words}"
+    desk.fresh()
+    desk.measure(1, 1000.0)
+    assert desk.write(103, 1, 2) == 0 and desk.write(105, 0xE000) == 0
+    equal(desk.read(138, 2), words_of(1000.0), "the raw value in mode")
+    points = [words_of(value) for value in (1000.0, 1250.0, 0.0, 0.0)]
+    equal(desk.calibrate(1, [], 1, points, clock=77), 0, "an update")
+    equal(desk.read(101, 6), [0, 77, 0, 0, 1, 1], "last, next, mode, method after an update")
+    equal(desk.read(110, 4), words_of(0.0) + words_of(1.25), "coefficients after an update")
+    equal(desk.read(116, 8), [word for point in points for word in point], "points after an update")
+    for command, text in registers.table("Command", "What it does"):
+        equal(desk.write(205, number(command)), 0, f"command {command}")
+    equal([n for n in range(0xDFF0, 0xE010) if desk.write(205, n) == 0x84], [*range(0xDFF0, 0xE000), *range(0xE003, 0xE010)], "other commands")
+
+
+def restart(desk, registers, _):
+    """Everything is changed, then the sonde is powered up: what differs from a fresh one's is what the manual says is kept."""
+    kept, lost = (row[1].split(", ") for row in registers.table("At a restart", "What"))
+    places = {
+        "coefficients in force": [100 * s + n for s in SENSORS for n in range(10, 16 if s == 3 else 14)],
+        "last calibration": [100 * s + n for s in SENSORS for n in (1, 2)],
+        "capacity": [7],
+        "entries in use": [8],
+        "mode": [100 * s + 5 for s in SENSORS],
+        "trial coefficients": [],
+        "method": [106, 206, 406],
+        "points": [s + n for s in (100, 200, 400) for n in range(16, 24)],
+        "next calibration": [100 * s + n for s in SENSORS for n in (3, 4)],
+        "units": [133, 333],
+        "level id": [340],
+        "sentinels": [at + n for at in PARAMETERS for n in (5, 6)],
+        "counters": [4, 5, 6],
+        "measurements": [at + n for at in PARAMETERS for n in (0, 1, 4)],
+    }
+    equal(sorted(places), sorted(kept + lost), "what is kept or lost")
+    every = sorted(register for field in fields(registers) for register in field[0])
+
+    def all_registers():
+        return dict(zip(every, (word for register in every for word in desk.read(register))))
+
+    desk.fresh(64 + 24 * 9)
+    fresh = all_registers()
+    for sensor in SENSORS:
+        at = 100 * sensor
+        equal(desk.calibrate(sensor, [0.125, 1.125, 2.5] if sensor == 3 else [0.125, 1.125], clock=0x01020304), 0, "a calibration")
+        desk.measure(sensor, 7.0, 8.0)
+        if sensor != 3:
+            assert desk.write(at + 6, 2) == 0 and not any(desk.write(at + n, 0x3F81, 1) for n in (16, 18, 20, 22))
+        assert desk.write(at + 3, 0x1111, 0x2222) == 0 and desk.write(at + 10, 0x3D81, 0x0001) == 0
+    assert not any(desk.write(at, word) for at, word in ((133, 2), (333, 22), (340, 5)))
+    assert not any(desk.write(at + 5, 0x4111, 0x2222) for at in PARAMETERS)
+    desk.ask("frame 0 00")  # a bad frame
+    assert desk.read(9) == 2
+    before = all_registers()
+    changed = {register for register in every if before[register] != fresh[register]}
+    for name in ("mode", "method", "points", "next calibration", "units", "level id", "sentinels", "counters", "last calibration", "entries in use"):
+        assert changed >= set(places[name]), f"{name} was not changed"
+    assert desk.call("power-up 1") == 0
+    equal(desk.read(4, 3), [0, 0, 0], "counters")
+    after = all_registers()
+    differ = {register for register in every if after[register] != fresh[register]} - {2, 3, 4}
+    stays = {register for name in kept for register in places[name]}
+    assert differ <= stays, f"kept, but not said to be: {sorted(differ - stays)}"
+    in_force = {100 * s + 10: words_of(0.125) for s in SENSORS} | {100 * s + 12: words_of(1.125) for s in SENSORS} | {314: words_of(2.5)}
+    equal({at: [after[at], after[at + 1]] for at in in_force}, in_force, "coefficients in force")
+    equal([after[100 * s + n] for s in SENSORS for n in (1, 2)], [0x0102, 0x0304] * 4, "last calibrations")
+    equal((after[7], after[8]), (9, 4), "capacity and entries in use")
+    equal({after[at + 4] for at in PARAMETERS}, {7}, "qualities")
+    assert desk.write(205, 0xE000) == 0
+    equal(desk.read(210, 4), words_of(0.125) + words_of(1.125), "trial coefficients")
+
+
+# ---- docs/ARCHIVE.md
+
+
+def float_cells(cell):
+    return [[int(word, 16) for word in pair.split()] for pair in re.findall(r"`([0-9A-F]{4} [0-9A-F]{4})`", cell)]
+
+
+def rounding(desk, _, archive):
+    """The calibrations by which a decoder can be tested; each tells the stated arithmetic from another."""
+    archive.says("to nearest, ties to even. Subnormals .* are kept and not flushed to zero")
+    archive.says("there is no fused multiply-add")
+    rows = archive.table("x1, y1, x2, y2", "Coefficients 1, 2")
+    assert rows
+    for points, coefficients, otherwise in rows:
+        desk.fresh()
+        equal(desk.calibrate(4, [], 2, float_cells(points)), 0, f"the points {points}")
+        equal([desk.read(410, 2), desk.read(412, 2)], float_cells(coefficients), f"the coefficients of {points}")
+        x1, y1, slope = (Fraction(float_of(words)) for words in (*float_cells(points)[:2], float_cells(coefficients)[1]))
+        least = Fraction(2) ** -149
+        other = y1 - slope * x1 if "fused" in otherwise else y1 - floor(slope * x1 / least + Fraction(1, 2)) * least
+        equal(float_cells(otherwise), [words_of(float(other))], f"coefficient 1 of {points} otherwise")
+
+
+def names(desk, registers, archive):
+    """Raw values, readings and coefficients have the units that the registers have by default."""
+    default = {
+        (row[0], row[1]): re.match(r"\d+ (\S+?)(,|$)", row[4]).group(1) for row in registers.table("Sensor", "k", "Parameter")
+    }
+    places = {"1": ("2", "2"), "2": ("1", "1"), "3": ("1", "2"), "4": ("1", "1")}
+    for name, raw, reading, *cells in archive.table("Sensor", "Raw value", "Reading"):
+        sensor = name[0]
+        first, last = (default[sensor, k] for k in places[sensor])
+        equal((raw, reading), (first, last), f"sensor {sensor}, units of raw value and reading")
+        units = [re.fullmatch(r"(?:\+0|[a-z ]+(?:, (\S+))? \(.*\))", cell).group(1) for cell in cells]
+        equal(units, [first, last, first] if sensor == "3" else [first, None, None], f"sensor {sensor}, units of its coefficients")
+
+
+def sizes(desk, _, archive):
+    header, least = map(int, archive.says(r"An odd number of bytes, fewer than (\d+) words \(no header\) and fewer than (\d+) words"))
+    most, capacity = map(int, archive.says(r"Words beyond the first (\d+) are never used: the capacity stops at (\d+)"))
+    archive.says("a volume has no serial number and no address")
+    desk.fresh(least)
+    whole = desk.words()
+    equal(desk.call("power-up 9"), 0, "power-up of the least volume, by another address")
+    for words in (whole[:-1], whole[:header], whole[: header - 1], whole[:1]):
+        desk.load(words)
+        equal(desk.call("power-up 1"), 4, f"power-up of {len(words)} words")
+    equal(desk.call(f"begin {least - 1}"), 2, "begin of one word less")
+    for length in (most - 1, most, most + 24):
+        desk.fresh(length)
+        equal(desk.words()[1], capacity - (length < most), f"the capacity of {length} words")
+    desk.fresh(most + 24)
+    words = desk.words()
+    desk.load(words[:most])
+    equal(desk.call("power-up 1"), 0, "power-up without the words beyond")
+
+
+def third(desk, _, archive):
+    archive.says(r"Coefficient 3 is \+0 by both")
+    for sensor in (1, 2, 4):
+        for method in (1, 2):
+            desk.fresh()
+            equal(desk.calibrate(sensor, [], method, [words_of(value) for value in (8.0, 9.0, 0.0, 0.0)]), 0, "a calibration")
+            entry = desk.words()[64:88]
+            equal(entry[1:3] + entry[10:12], [sensor, method, 0, 0], "sensor, method and coefficient 3")
+
+
+def flips(desk, _, archive):
+    """Every bit of the worked volume is flipped, one at a time. Unseen is a flip after which power-up takes the volume."""
+    worked = archive.worked()
+    kind = {word: "all others" for word in range(len(worked))}
+
+    def named(name, *words):
+        kind.update({word: name for word in words})
+
+    entries = [64 + 24 * n for n in range(3)]
+    named("opening coefficients, 16..39", *range(16, 40))
+    named("opening times, 40..47", *range(40, 48))
+    for n, entry in enumerate(entries, 1):
+        named("times of the entries", entry + 4, entry + 5)
+        given = "coefficients of entry 3, written directly" if n == 3 else "coefficients of entries 1 and 2, which their points give"
+        named(given, *range(entry + 6, entry + 12))
+        named("points of the entries", *range(entry + 12, entry + 20))
+    desk.load(worked)
+    equal(desk.call("power-up 1"), 0, "power-up of the worked volume")
+    counts = {}
+    for word in range(len(worked)):
+        for bit in range(16):
+            desk.load(worked[:word] + [worked[word] ^ 1 << bit] + worked[word + 1 :])
+            unseen = desk.call("power-up 1") == 0
+            for name in (kind[word], "together"):
+                flipped, passed = counts.get(name, (0, 0))
+                counts[name] = (flipped + 1, passed + unseen)
+    for name in sorted(counts):
+        print(f"       {name}: {counts[name][0]} flips, {counts[name][1]} unseen")
+    equal(counts, {row[0]: (int(row[1]), int(row[2])) for row in archive.table("Words", "Flips", "Unseen")}, "flips and unseen flips")
+    unseen, flipped = archive.says(r"So (\d+) of (\d+), more than one in four, go unseen")
+    equal(counts["together"], (int(flipped), int(unseen)), "the sum of the flips")
+    assert 4 * int(unseen) > int(flipped)
+    archive.says("in free words every one does, without harm")
+    desk.fresh(88)
+    begun = desk.words()
+    for word in range(64, 88):
+        for bit in range(16):
+            desk.load(begun[:word] + [begun[word] ^ 1 << bit] + begun[word + 1 :])
+            equal(desk.call("power-up 1"), 0, f"power-up after a flip in the free word {word}")
+
+
+def row_of_volumes(desk, _, archive):
+    """The opening of a volume that follows another is what replay of the other gives, at the words that the manual names."""
+    a, b, c, d, e, f, g, h = map(int, archive.says(r"words (\d+) \+ (\d+) × s to (\d+) \+ (\d+) × s and (\d+) \+ (\d+) × s to (\d+) \+ (\d+) × s"))
+    worked = archive.worked()
+    desk.load(worked)
+    assert desk.call("power-up 1") == 0 and desk.call("begin 136") == 0
+    new = desk.words()
+    equal(new[:16], [1, 3] + [0] * 14, "the new volume's first words")
+    for sensor in SENSORS:
+        state, entry = worked[10 + 6 * sensor :][:6] + worked[38 + 2 * sensor :][:2], worked[3 + sensor]
+        while entry:
+            at = 64 + 24 * (entry - 1)
+            state, entry = worked[at + 6 : at + 12] + worked[at + 4 : at + 6], worked[at]
+        equal(new[a + b * sensor : c + d * sensor + 1] + new[e + f * sensor : g + h * sensor + 1], state, f"the opening of sensor {sensor}")
+
+
+CHECKS = {
+    "REGISTERS.md": (checksum, layouts, order, past_the_end, existing, access, parameters, limits, readings, calibration, restart),
+    "ARCHIVE.md": (rounding, names, sizes, third, flips, row_of_volumes),
+}
+
+
+def main(desk, registers, archive):
+    desk, registers, archive = Desk(desk), Manual(registers), Manual(archive)
+    failed = False
+    for document, checks in CHECKS.items():
+        for check in checks:
+            try:
+                check(desk, registers, archive)
+                print(f"ok     {document}: {check.__name__.replace('_', ' ')}")
+            except (AssertionError, ValueError, LookupError, AttributeError, TypeError) as error:
+                print(f"FAILED {document}: {check.__name__.replace('_', ' ')}: {error}")
+                failed = True
+    return failed
+
+
+sys.exit(main(*sys.argv[1:]))
