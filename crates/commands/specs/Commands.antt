@@ -27,7 +27,7 @@ codeOf (Refused code) = code
 codeOf (Stored s) = 0
 codeOf (Updated s e) = 0
 
--- the setup that an answer leaves, s being the one before: "a code changes only the message counters"
+-- the setup that an answer leaves, s being the one before; demand 1: "a code changes only the message counters"
 abbrev pub setupAfter : Setup → Written → Setup
 setupAfter s (Refused code) = s
 setupAfter s (Stored t) = t

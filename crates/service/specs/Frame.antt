@@ -87,7 +87,7 @@ writtenBy s x f v c = writeOf s (x .setup) f (firstWord (sensorRegister s x (f .
 abbrev pub writeAt : Sonde → List ℕ → Arrival → ℕ → Field → Value → Written
 writeAt d w a s f v = writtenBy s (sensorAt d s) f v (contextOf w a)
 
--- "a code changes only the message counters"; what is stored is the sensor's; an update also appends its entry
+-- demand 1: "a code changes only the message counters"; what is stored is the sensor's; an update also appends its entry
 unfoldable pub carried : Sonde → Header → List ℕ → List ℕ → ℕ → Written → Answer
 carried d h body w s x =
     answer (eventOf (codeOf x)) (writeBody h body (codeOf x)) (withSetup d s (setupAfter (setupAt d s) x)) (appendsOf w (entriesOf x))
@@ -128,7 +128,7 @@ pub record Outcome : Type 0 where
 abbrev pub outcome : SondeFrame → List ℕ → List ℕ → Outcome
 outcome r reply volume = record { number = r .number; size = r .length; sonde = r .sonde; reply = reply; volume = volume }
 
--- "A number changes nothing"; length 0
+-- demand 1: "A number changes nothing"; length 0
 abbrev pub refusedBy : ℕ → Sonde → SondeFrame
 refusedBy number d = record { number = number; length = 0; sonde = d }
 
