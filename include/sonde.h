@@ -5,7 +5,8 @@
  * comes back by value; the host keeps it between calls. The volume (the words of the journal) is the host's memory and is lent for the call.
  * Calls on different sondes and volumes may run at the same time.
  *
- * Link with libsonde.a (`rt staticlib sonde` writes target/staticlib/libsonde.a, for x86-64).
+ * Link with libsonde.a: `cc host.c $(pkg-config --cflags --libs sonde)` once `./install` has put it in place, or target/staticlib/libsonde.a, which
+ * `rt staticlib sonde` writes.
  *
  *     uint16_t volume[24064];
  *     uint8_t reply[SONDE_REPLY_BYTES];
@@ -22,6 +23,13 @@
  *     }
  *
  * Pointers: each is valid for its length, aligned for its type, not null even where the length is 0, and no two lent parts overlap.
+ *
+ * The machine: x86-64 with the System V ABI; code that may stand anywhere in memory, and no more than SSE2. Floats are as C starts with them: rounded to
+ * nearest, subnormals kept. Of the C library it needs memcpy and nothing else. No heap, and no variables of its own (.data and .bss are empty).
+ *
+ *     flash   at most 24576 bytes of code and constants
+ *     stack   at most 3584 bytes for a call, with its arguments and its result. A memcpy that the dynamic linker binds late takes its own at first
+ *     RAM     what the host keeps: a sonde 396 bytes, the volume 2 for each word (48128 for 1000 entries), the reply 256
  */
 #ifndef SONDE_H
 #define SONDE_H
@@ -33,6 +41,8 @@
 #ifdef __cplusplus
 extern "C" {
 #endif
+
+#define SONDE_VERSION "0.1.0"
 
 /* ---- sizes ---- */
 

@@ -21,8 +21,24 @@
 //! assert_eq!(after.audit(&volume), Ok(0));
 //! # Ok::<(), sonde::Error>(())
 //! ```
+//!
+//! # Linking
+//!
+//! The library is for x86-64. It is looked for in the folder that the environment variable `SONDE_LIB_DIR` names, by its path from the root
+//! (`PREFIX/lib`, where `./install` has put `libsonde.a`), and without that in `target/staticlib` of the repository, where `rt staticlib sonde`
+//! writes it.
+//!
+//! # Without std
+//!
+//! The feature `std` is on by default. Without it the crate is `no_std`, has the same calls, and needs no allocator; the library needs `memcpy`:
+//!
+//! ```toml
+//! sonde = { path = "...", default-features = false }
+//! ```
 
-use std::fmt;
+#![cfg_attr(not(feature = "std"), no_std)]
+
+use core::fmt;
 
 pub mod ffi;
 
@@ -71,7 +87,7 @@ impl fmt::Display for Error {
     }
 }
 
-impl std::error::Error for Error {}
+impl core::error::Error for Error {}
 
 /// What a number says: done, or why not. The library is proved to give no others.
 fn done(number: u8) -> Result<(), Error> {

@@ -1,0 +1,48 @@
+//! A host without std and without a heap: C's `main`, a panic handler of its own, and the sonde's crate with `default-features = false`. A crate that
+//! linked std would bring a second panic handler, and the compiler would refuse it.
+#![no_std]
+#![no_main]
+
+use core::error::Error as _;
+use core::ffi::c_int;
+use core::panic::PanicInfo;
+use sonde::{Error, Sonde, REPLY_BYTES};
+
+#[link(name = "c")]
+extern "C" {
+    fn abort() -> !;
+    fn write(fd: c_int, bytes: *const u8, n: usize) -> isize;
+}
+
+#[panic_handler]
+fn stop(_: &PanicInfo) -> ! {
+    // SAFETY: C's abort takes nothing.
+    unsafe { abort() }
+}
+
+/// Named by the `core` of a target that unwinds; with `panic = "abort"` nothing calls it.
+#[no_mangle]
+extern "C" fn rust_eh_personality() {}
+
+/// The map's version, read over a frame from a sonde that was powered up from its journal.
+fn reply(buffer: &mut [u8]) -> Result<&[u8], Error> {
+    let mut volume = [0; 88];
+    Sonde::fresh(1)?.begin(&mut volume)?;
+    let mut sonde = Sonde::power_up(1, &volume)?;
+    sonde.measure(1, Some((1000.0, 21.5)))?;
+    sonde.frame(&[1, 3, 0, 0, 0, 1, 0x84, 0x0A], buffer, &mut volume, 0)
+}
+
+#[no_mangle]
+pub extern "C" fn main() -> c_int {
+    let refused = Sonde::fresh(0).map(|_| ()).unwrap_err();
+    let mut buffer = [0; REPLY_BYTES];
+    match reply(&mut buffer) {
+        Ok([1, 3, 2, 0, 3, 0xF8, 0x45]) if refused == Error::BadAddress && refused.source().is_none() => {
+            let told = b"a host without std was answered\n";
+            // SAFETY: the bytes are valid for their length.
+            (unsafe { write(1, told.as_ptr(), told.len()) } != told.len() as isize).into()
+        }
+        _ => 1,
+    }
+}
