@@ -10,15 +10,18 @@
  *
  *     uint16_t volume[24064];
  *     uint8_t reply[SONDE_REPLY_BYTES];
- *     SondeMade made = sonde_fresh(1);
- *     if (made.number == SONDE_OK) made = sonde_begin(made.sonde, volume, 24064);
+ *     bool kept = load(volume, 24064);                  false at the very first start
+ *     SondeMade made = kept ? sonde_power_up(1, volume, 24064) : sonde_fresh(1);
+ *     if (!kept && made.number == SONDE_OK) made = sonde_begin(made.sonde, volume, 24064);
  *     if (made.number != SONDE_OK) { ... }
  *     Sonde sonde = made.sonde;
  *     for (;;) {
  *         size_t n = next_frame(bytes);                 the host cuts frames by silence
+ *         sonde = sonde_measure(sonde, 1, true, conductivity(), temperature()).sonde;
  *         SondeFrame f = sonde_frame(sonde, bytes, n, reply, sizeof reply, volume, 24064, seconds());
  *         if (f.number != SONDE_OK) { ... }             nothing was changed
  *         sonde = f.sonde;
+ *         store(volume, 24064);                         safely, before the reply is sent
  *         if (f.length > 0) send(reply, f.length);
  *     }
  *
@@ -113,8 +116,9 @@ typedef struct { uint8_t number; uint16_t entries; } SondeAudit;
 SondeMade sonde_fresh(uint8_t address);
 
 /*
- * Begins a journal in a volume: words 0..63 are written, with the calibrations in force as its opening; the others stay. The sonde comes back
- * unchanged, refused or not. Refused by 2, then 4 (the sonde alone is looked at); the volume then stays as it was.
+ * Begins a journal in a volume: words 0..63 are written, with the calibrations in force as its opening; the others stay. A journal that the volume
+ * held is lost by it: for one that is there, sonde_power_up is the call, and for a full one (exception 0xC0) another volume, begun with the same
+ * sonde. The sonde comes back unchanged, refused or not. Refused by 2, then 4 (the sonde alone is looked at); the volume then stays as it was.
  */
 SondeMade sonde_begin(Sonde sonde, uint16_t *volume, size_t words);
 

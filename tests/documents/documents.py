@@ -271,6 +271,24 @@ def order(desk, registers, _):
     equal(len(listed), 9, "the number of codes")
 
 
+def broadcast(desk, registers, _):
+    """At address 0: what each kind of frame adds to the counters good, bad and exceptions."""
+    registers.says("A frame of function 3 counts as good there, whatever its shape, and nothing else happens")
+    registers.says("a refused write and another function also count as exceptions")
+    for body, good, exceptions in (
+        ([0, 3, 0, 0, 0, 1], 1, 0),
+        ([0, 3, 0, 9, 0, 0], 1, 0),
+        ([0, 3], 1, 0),
+        ([0, 6, 0, 0x85, 0, 2], 1, 0),
+        ([0, 6, 0, 0x85, 0, 7], 1, 1),
+        ([0, 6, 0], 1, 1),
+        ([0, 4, 0, 0, 0, 1], 1, 1),
+    ):
+        desk.fresh()
+        equal(desk.ask(f"frame 0 {hexadecimal(sealed(body), 2)}"), ["0"], f"the number and the reply to {hexadecimal(body, 2)}")
+        equal(desk.read(4, 3), [good, 0, exceptions], f"the counters after {hexadecimal(body, 2)}")
+
+
 def past_the_end(desk, registers, _):
     code, = (number(row[0]) for row in registers.table("Code", "When") if "past 0xFFFF" in row[1])
     desk.fresh()
@@ -393,6 +411,8 @@ def bounds(cells):
 
 def limits(desk, registers, archive):
     """Defaults, and both limits of each coefficient with its two neighbours. The two manuals' limits are the same."""
+    registers.says("they are inclusive. They, and every constant on this page, are the binary32 nearest to the decimal")
+    archive.says("Limits are inclusive. They and every constant on this page are the floats nearest to their decimals")
     rows = registers.table("Sensor", "Coefficient 1 (default, limits)")
     others = archive.table("Sensor", "Raw value", "Reading")
     equal([int(row[0]) for row in rows], list(SENSORS), "sensors")
@@ -424,11 +444,33 @@ def readings(desk, registers, _):
     desk.measure(3, 3e38)
     assert desk.write(333, 21) == 0
     equal(desk.read(334) + desk.read(342), [3, 0], "qualities of pressure and level")
+    most, = registers.says(r"1000000 / conductivity as shown, (\d+) at either zero")
+    for zero in (0.0, -0.0):
+        desk.fresh()
+        desk.measure(1, zero)
+        assert desk.write(105, 0xE000) == 0
+        equal(desk.read(138, 2) + desk.read(146, 2), words_of(zero) + words_of(float(most)), "conductivity and resistivity at zero")
+
+
+def in_mode(desk, registers, _):
+    """In mode the raw is shown, converted; the level is L of the pressure by coefficient 1 in force."""
+    registers.says("and the conversion to the units comes last, in mode too")
+    factor, = registers.says(r"With L\(p\) = p × ([0-9.]+) / 1.0")
+    registers.says(r"the level L\(Pm\) whatever its id \(Pm by c1 in force\)")
+    desk.fresh()
+    equal(desk.calibrate(3, [2.0, 5.0, 1.0]), 0, "the calibration")
+    desk.measure(3, 14.5)
+    assert desk.write(310, *words_of(9.0)) == 0 and desk.write(340, 4) == 0 and desk.write(333, 19) == 0
+    equal(desk.read(330, 2), words_of(f32(14.5 * f32(6.894757))), "the pressure in mode, in kPa")
+    equal(desk.read(338, 2), words_of(f32(12.5 * f32(float(factor)))), "the level in mode")
+    desk.measure(1, 1.0, 20.0)
+    assert desk.write(105, 0xE000) == 0 and desk.write(133, 2) == 0
+    equal(desk.read(130, 2), words_of(f32(f32(20 * f32(1.8)) + 32)), "the temperature in mode, in °F")
 
 
 def calibration(desk, registers, _):
     """Points that give no candidate, and what an update leaves."""
-    code, = registers.says(r"x1 = 0 by method 1 and x1 = x2 by method 2 are refused \((0x97)\)")
+    code, = registers.says(r"x1 = 0 \(either zero\) by method 1 and x1 = x2 by method 2 are refused \((0x97)\)")
     registers.says("x is the raw value, as the sonde shows it in mode, and y the standard's value")
     for method, x1, x2 in ((1, 0.0, 0.0), (1, -0.0, 0.0), (2, 5.0, 5.0), (2, 0.0, -0.0)):
         desk.fresh()
@@ -565,6 +607,19 @@ def sizes(desk, _, archive):
     equal(desk.call("power-up 1"), 0, "power-up without the words beyond")
 
 
+def no_coefficients(desk, _, archive):
+    """Entries whose points give nothing: entry 2 of the worked volume by one point, entry 1 by two."""
+    archive.says(r"Points with x1 = 0 \(method 1, either zero\) or x1 = x2 \(method 2\), or with a result that isn't finite, give no coefficients")
+    for changes in ({100: 0}, {100: 0x8000}, {76: 0, 77: 0}, {76: 0, 77: 1, 78: 0x7F7F, 79: 0xFFFF}, {102: 0x7F7F, 100: 0x0080}):
+        words = archive.worked()
+        desk.load(words)
+        assert desk.call("power-up 1") == 0
+        for at, word in changes.items():
+            words[at] = word
+        desk.load(words)
+        equal(desk.call("power-up 1"), 4, f"the number for {changes}")
+
+
 def third(desk, _, archive):
     archive.says(r"Coefficient 3 is \+0 by both")
     for sensor in (1, 2, 4):
@@ -633,8 +688,11 @@ def row_of_volumes(desk, _, archive):
 
 
 CHECKS = {
-    "REGISTERS.md": (checksum, layouts, order, past_the_end, existing, access, parameters, limits, readings, calibration, restart),
-    "ARCHIVE.md": (rounding, names, sizes, third, flips, row_of_volumes),
+    "REGISTERS.md": (
+        *(checksum, layouts, order, broadcast, past_the_end, existing, access, parameters, limits),
+        *(readings, in_mode, calibration, restart),
+    ),
+    "ARCHIVE.md": (rounding, names, sizes, no_coefficients, third, flips, row_of_volumes),
 }
 
 
