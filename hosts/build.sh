@@ -46,8 +46,9 @@ tools() {
 
 # build PACKAGE: cargo says something only where it fails. The program's time is then that of cargo's word on it.
 build() {
-    said=$(cd "$top" && cargo build --quiet --release --package "$1" --target-dir target/cargo 2>&1) ||
+    said=$(cd "$top" && unset CARGO_BUILD_TARGET && cargo build --quiet --release --package "$1" --target-dir target/cargo 2>&1) ||
         { printf '%s\n' "$said" >&2; fail 'cargo failed, see above'; }
+    [ -x "$top/target/cargo/release/$1" ] || fail "cargo has built no target/cargo/release/$1"
     touch "$top/target/cargo/release/$1"
 }
 

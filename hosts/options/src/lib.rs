@@ -5,6 +5,7 @@ mod raws;
 pub use raws::Raws;
 
 use std::ffi::OsString;
+use std::io::{stderr, Write};
 use std::ops::RangeInclusive;
 use std::path::PathBuf;
 use std::process::ExitCode;
@@ -91,7 +92,7 @@ impl Default for Options {
 
 /// Says what is wrong with the words of the command line.
 pub fn told(message: &str) -> ExitCode {
-    eprintln!("serve: {message}; --help lists the options");
+    let _ = stderr().write_all(format!("serve: {message}; --help lists the options\n").as_bytes());
     ExitCode::from(2)
 }
 

@@ -9,7 +9,7 @@ pub fn utc(clock: u32) -> String {
 }
 
 fn is_leap(year: u32) -> bool {
-    year % 4 == 0 && (year % 100 != 0 || year % 400 == 0)
+    year.is_multiple_of(4) && (!year.is_multiple_of(100) || year.is_multiple_of(400))
 }
 
 /// Year, month and day of so many days after 1970-01-01.

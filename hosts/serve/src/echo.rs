@@ -1,75 +1,171 @@
-//! What a line hands back of a reply. A two-wire adapter hears what it sends, and the reply to a write can be its request, byte for byte: taken
-//! for a request, an update's echo would be journalled again and again.
+//! What a line hands back. A two-wire adapter hears what it sends, and the reply to a write can be its request, byte for byte: taken for a
+//! request, an update's echo would be journalled again and again.
 
-/// Of the bytes that have come in since a reply was sent, those that can be its echo.
+use std::collections::VecDeque;
+use std::ops::Range;
+use std::time::{Duration, Instant};
+
+/// How long an adapter may hold bytes back.
+pub const HELD_BACK: Duration = Duration::from_millis(100);
+/// A frame that begins so soon after a reply, and is the same, may be its echo.
+const SOON: Duration = Duration::from_millis(250);
+/// So many frames in a row that repeat replies may be a client's. One more is left out, to see.
+const REPEATS: u32 = 10;
+/// Bytes that are looked through for an echo, at most.
+const MOST: usize = 2048;
+
+/// The bytes that have come in since a reply was sent.
 pub struct Echo<'a> {
     sent: &'a [u8],
     heard: Vec<u8>,
+    /// Where in `heard` bytes came after a silence.
+    gaps: Vec<usize>,
 }
 
-#[derive(Debug, PartialEq)]
+#[derive(Clone, Copy, Debug, PartialEq)]
 pub enum Heard {
     Nothing,
-    /// All that was sent, or only the beginning of it.
+    /// All that was sent, or the beginning of it and then a silence.
     Echo,
     Other,
 }
 
 impl Echo<'_> {
     pub fn of(sent: &[u8]) -> Echo<'_> {
-        let heard = Vec::new();
-        Echo { sent, heard }
+        Echo {
+            sent,
+            heard: Vec::new(),
+            gaps: Vec::new(),
+        }
     }
 
-    pub fn push(&mut self, bytes: &[u8]) {
+    pub fn push(&mut self, bytes: &[u8], after_silence: bool) {
+        if after_silence {
+            self.gaps.push(self.heard.len());
+        }
         self.heard.extend_from_slice(bytes);
     }
 
-    /// Whether some of it has come, and all so far is the echo's.
+    /// Where all that was sent stands.
+    fn found(&self) -> Option<usize> {
+        self.heard.windows(self.sent.len()).position(|bytes| bytes == self.sent)
+    }
+
+    /// Whether all has come, or too much else.
+    pub fn is_over(&self) -> bool {
+        self.found().is_some() || self.heard.len() > MOST
+    }
+
+    /// Whether as many bytes have come as were sent.
+    pub fn is_long_enough(&self) -> bool {
+        self.heard.len() >= self.sent.len()
+    }
+
+    /// Whether some of it has come, and nothing else.
     pub fn has_begun(&self) -> bool {
         !self.heard.is_empty() && self.sent.starts_with(&self.heard)
     }
 
-    /// Whether more is needed to know.
-    pub fn is_open(&self) -> bool {
-        self.heard.len() < self.sent.len() && self.sent.starts_with(&self.heard)
+    /// The length of an echo that was cut short: it ends with what was heard, or before a silence.
+    fn cut(&self) -> usize {
+        let same = self.heard.iter().zip(self.sent).take_while(|(heard, sent)| heard == sent).count();
+        let ends = self.gaps.iter().copied().chain([self.heard.len()]);
+        ends.filter(|&end| end <= same).max().unwrap_or(0)
     }
 
-    /// What it was, and the bytes that aren't part of it.
-    pub fn end(self) -> (Heard, Vec<u8>) {
-        match self.heard.strip_prefix(self.sent) {
-            _ if self.heard.is_empty() => (Heard::Nothing, self.heard),
-            Some(rest) => (Heard::Echo, rest.to_vec()),
-            None if self.has_begun() => (Heard::Echo, Vec::new()),
-            None => (Heard::Other, self.heard),
+    /// What it was, and the bytes that aren't part of it, in parts where it or a silence stood between them.
+    pub fn end(self) -> (Heard, Vec<Vec<u8>>) {
+        let echo = match self.found() {
+            Some(start) => start..start + self.sent.len(),
+            None => 0..self.cut(),
+        };
+        let heard = match echo.is_empty() {
+            false => Heard::Echo,
+            true if self.heard.is_empty() => Heard::Nothing,
+            true => Heard::Other,
+        };
+        let (before, after) = (0..echo.start, echo.end..self.heard.len());
+        (heard, [self.parts(before), self.parts(after)].concat())
+    }
+
+    /// The bytes of a range, cut where a silence was.
+    fn parts(&self, range: Range<usize>) -> Vec<Vec<u8>> {
+        let inside = self.gaps.iter().copied().filter(|gap| range.contains(gap));
+        let ends = inside.chain([range.end]);
+        let mut start = range.start;
+        let parts = ends.map(|end| self.heard[std::mem::replace(&mut start, end)..end].to_vec());
+        parts.filter(|part| !part.is_empty()).collect()
+    }
+}
+
+/// What a frame is that may be a reply which the line hands back late.
+#[derive(Debug, PartialEq)]
+pub enum Verdict {
+    /// A client's.
+    Request,
+    /// A reply, and no client sends such a frame.
+    Echo,
+    /// A write that has repeated its reply too often to be believed. It is left out, and what comes next shows who sent it.
+    LeftOut,
+    /// A client's, after one that was left out: that was the line's.
+    RequestAfterEcho,
+}
+
+/// Replies that are remembered: more than can be on their way back at a time.
+const REMEMBERED: usize = 4;
+
+/// Tells clients from a line that hands replies back late.
+#[derive(Default)]
+pub struct Suspicion {
+    /// The last replies, with the time at which their last bit was sent.
+    replies: VecDeque<(Vec<u8>, Instant)>,
+    repeats: u32,
+    left_out: Option<Vec<u8>>,
+    /// A client was seen to repeat itself.
+    trusted: bool,
+}
+
+impl Suspicion {
+    pub fn replied(&mut self, reply: &[u8], sent: Instant) {
+        self.replies.push_back((reply.to_vec(), sent));
+        if self.replies.len() > REMEMBERED {
+            self.replies.pop_front();
+        }
+    }
+
+    /// Judges a frame that began to come in at `began`.
+    pub fn judge(&mut self, frame: &[u8], began: Instant) -> Verdict {
+        let repeats = |(reply, sent): &(Vec<u8>, Instant)| reply == frame && began < *sent + SOON;
+        if !self.replies.iter().any(repeats) {
+            self.repeats = 0;
+            return self.judge_next(frame);
+        }
+        match frame {
+            [_, 6 | 22, ..] if self.trusted => Verdict::Request,
+            [_, 6 | 22, ..] if self.repeats < REPEATS => {
+                self.repeats += 1;
+                Verdict::Request
+            }
+            [_, 6 | 22, ..] => {
+                self.left_out = Some(frame.to_vec());
+                Verdict::LeftOut
+            }
+            _ => Verdict::Echo,
+        }
+    }
+
+    /// A frame that repeats no reply. A client whose frame was left out sends it again.
+    fn judge_next(&mut self, frame: &[u8]) -> Verdict {
+        match self.left_out.take() {
+            Some(left_out) if left_out == frame => {
+                self.trusted = true;
+                Verdict::Request
+            }
+            Some(_) => Verdict::RequestAfterEcho,
+            None => Verdict::Request,
         }
     }
 }
 
 #[cfg(test)]
-mod tests {
-    use super::*;
-
-    fn heard(parts: &[&[u8]]) -> (bool, Heard, Vec<u8>) {
-        let mut echo = Echo::of(&[1, 6, 0, 105]);
-        parts.iter().for_each(|part| echo.push(part));
-        let open = echo.is_open();
-        let (heard, rest) = echo.end();
-        (open, heard, rest)
-    }
-
-    #[test]
-    fn exactly_what_was_sent_is_dropped() {
-        assert_eq!(heard(&[]), (true, Heard::Nothing, vec![]));
-        assert_eq!(heard(&[&[1, 6], &[0, 105]]), (false, Heard::Echo, vec![]));
-        assert_eq!(heard(&[&[1, 6, 0, 105, 1, 3]]), (false, Heard::Echo, vec![1, 3]));
-        assert_eq!(heard(&[&[1, 6], &[0]]), (true, Heard::Echo, vec![]));
-    }
-
-    #[test]
-    fn what_differs_is_kept() {
-        assert_eq!(heard(&[&[1, 3]]), (false, Heard::Other, vec![1, 3]));
-        assert_eq!(heard(&[&[1, 6, 0], &[106, 7]]), (false, Heard::Other, vec![1, 6, 0, 106, 7]));
-        assert_eq!(heard(&[&[0, 1, 6, 0, 105]]), (false, Heard::Other, vec![0, 1, 6, 0, 105]));
-    }
-}
+mod tests;

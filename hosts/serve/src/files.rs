@@ -1,9 +1,10 @@
 //! Files that others may have touched: opened without waiting, locked, and replaced only where they are still what they were.
 
-use crate::sys::LINE_FLAGS;
+use crate::sys::{self, LINE_FLAGS};
 use std::ffi::OsString;
 use std::fs::{self, File, Metadata, TryLockError};
 use std::io::{self, ErrorKind, Read, Write};
+use std::os::unix::ffi::OsStrExt;
 use std::os::unix::fs::{fchown, MetadataExt, OpenOptionsExt};
 use std::path::{Path, PathBuf};
 
@@ -24,7 +25,7 @@ pub fn resolved(path: &Path) -> Result<PathBuf, String> {
     match fs::symlink_metadata(path) {
         Ok(found) if found.is_symlink() && !path.exists() => Err("it is a link that leads to no file".to_string()),
         Ok(_) => fs::canonicalize(path).map_err(told),
-        Err(e) if e.kind() == ErrorKind::NotFound => resolved_folder(path).map_err(told),
+        Err(e) if e.kind() == ErrorKind::NotFound && !path.as_os_str().as_bytes().ends_with(b"/") => resolved_folder(path).map_err(told),
         Err(e) => Err(told(e)),
     }
 }
@@ -38,18 +39,28 @@ pub fn resolved_folder(path: &Path) -> io::Result<PathBuf> {
 
 /// Opens a regular file to be read. Nothing else is waited for: a FIFO without a writer would hold the server up for ever.
 pub fn open_regular(path: &Path) -> Result<File, String> {
-    open_checked(File::options().read(true), path)
+    open_checked(File::options().read(true).custom_flags(LINE_FLAGS), path)
+}
+
+/// The same where no link has to be followed.
+pub fn open_itself(path: &Path) -> Result<File, String> {
+    open_checked(File::options().read(true).custom_flags(LINE_FLAGS | O_NOFOLLOW), path)
 }
 
 /// Whether a regular file can be written, without writing to it.
 pub fn writable(path: &Path) -> Result<bool, String> {
     open_regular(path)?;
-    let opened = open_checked(File::options().write(true), path);
+    let opened = open_checked(File::options().write(true).custom_flags(LINE_FLAGS), path);
     let mode = fs::metadata(path).map_err(|e| e.to_string())?.permissions();
     Ok(opened.is_ok() && !mode.readonly())
 }
 
-fn open_checked(options: &mut fs::OpenOptions, path: &Path) -> Result<File, String> {
+/// The names that a file has.
+pub fn names(path: &Path) -> Result<u64, String> {
+    fs::metadata(path).map(|found| found.nlink()).map_err(|e| e.to_string())
+}
+
+fn open_checked(options: &fs::OpenOptions, path: &Path) -> Result<File, String> {
     let regular = |found: io::Result<Metadata>| match found {
         Ok(found) if found.is_file() => Ok(()),
         Ok(found) if found.is_dir() => Err("it is a folder".to_string()),
@@ -57,7 +68,7 @@ fn open_checked(options: &mut fs::OpenOptions, path: &Path) -> Result<File, Stri
         Err(e) => Err(e.to_string()),
     };
     regular(fs::metadata(path))?;
-    let file = options.custom_flags(LINE_FLAGS).open(path).map_err(|e| e.to_string())?;
+    let file = options.open(path).map_err(|e| e.to_string())?;
     regular(file.metadata())?;
     Ok(file)
 }
@@ -130,7 +141,7 @@ impl Lock {
 
 /// The file, and whether it wasn't there before.
 fn open_lock(path: &Path) -> io::Result<(File, bool)> {
-    match File::options().write(true).create_new(true).open(path) {
+    match File::options().write(true).create_new(true).mode(0o600).open(path) {
         Ok(file) => Ok((file, true)),
         Err(e) if e.kind() == ErrorKind::AlreadyExists => {
             let file = File::options().read(true).custom_flags(LINE_FLAGS | O_NOFOLLOW).open(path)?;
@@ -143,18 +154,63 @@ fn open_lock(path: &Path) -> io::Result<(File, bool)> {
     }
 }
 
-/// Replaces a file at one stroke: after a power cut it is the old or the new one, whole. Hands back which file it is now.
-pub fn replace(path: &Path, bytes: &[u8]) -> io::Result<Identity> {
-    let (new, file) = create_beside(path)?;
-    let replaced = fill(&file, path, bytes).and_then(|()| fs::rename(&new, path));
-    if let Err(e) = replaced {
+/// A file that has just been written.
+pub struct Written {
+    pub identity: Identity,
+    /// Whether its name is on the disk, too.
+    pub synced: io::Result<()>,
+}
+
+/// Writes a file that isn't there yet, at one stroke: after a power cut it isn't there, or it is whole.
+pub fn create(path: &Path, bytes: &[u8]) -> Result<Written, String> {
+    put(path, bytes, |new| {
+        let made = sys::rename_new(new, path).map_err(|e| e.to_string())?;
+        match made {
+            Some(()) => Ok(()),
+            None if Identity::at(path).is_ok() => Err("another program has just made it".to_string()),
+            None => fs::rename(new, path).map_err(|e| e.to_string()),
+        }
+    })
+}
+
+/// Replaces a file at one stroke: after a power cut it is the old or the new one, whole. `is_own` looks at the file before it goes; where it
+/// refuses, nothing has changed.
+pub fn replace(path: &Path, bytes: &[u8], is_own: impl Fn(&Path) -> Result<(), String>) -> Result<Written, String> {
+    is_own(path)?;
+    put(path, bytes, |new| match sys::exchange(new, path) {
+        Ok(Some(())) => is_own(new).inspect_err(|_| {
+            let _ = sys::exchange(new, path);
+        }),
+        Ok(None) => is_own(path).and_then(|()| fs::rename(new, path).map_err(|e| e.to_string())),
+        Err(e) => Err(e.to_string()),
+    })
+}
+
+/// Whether a file could be replaced: its folder has to take new ones.
+pub fn can_replace(path: &Path) -> Result<(), String> {
+    let (new, _) = create_beside(path)
+        .and_then(|made| Ok((made.0, folder_of(path)?)))
+        .map_err(|e| e.to_string())?;
+    fs::remove_file(new).map_err(|e| e.to_string())
+}
+
+/// Writes a new file beside another, and lets `place` bring it there.
+fn put(path: &Path, bytes: &[u8], place: impl FnOnce(&Path) -> Result<(), String>) -> Result<Written, String> {
+    let told = |e: io::Error| e.to_string();
+    let folder = folder_of(path).map_err(told)?;
+    let (new, file) = create_beside(path).map_err(told)?;
+    let identity = Identity::of(&file).map_err(told)?;
+    let placed = fill(&file, path, bytes).map_err(told).and_then(|()| place(&new));
+    let synced = folder.sync_all();
+    // In its place by now is the old file, or nothing. A file that found no place goes, and another's stays.
+    if placed.is_ok() || Identity::at(&new).is_ok_and(|there| there == identity) {
         let _ = fs::remove_file(&new);
-        return Err(e);
     }
-    if let Some(folder) = path.parent() {
-        File::open(folder)?.sync_all()?;
-    }
-    Identity::of(&file)
+    placed.map(|()| Written { identity, synced })
+}
+
+fn folder_of(path: &Path) -> io::Result<File> {
+    File::open(path.parent().unwrap_or(Path::new("/")))
 }
 
 fn fill(mut file: &File, old: &Path, bytes: &[u8]) -> io::Result<()> {
@@ -172,29 +228,27 @@ fn create_beside(path: &Path) -> io::Result<(PathBuf, File)> {
     loop {
         let new = beside(path, &format!(".{}-{count}.new", std::process::id()));
         match File::options().write(true).create_new(true).open(&new) {
-            Err(e) if e.kind() == ErrorKind::AlreadyExists && count < 1000 => count += 1,
+            Err(e) if e.kind() == ErrorKind::AlreadyExists && count < 100_000 => count += 1,
             other => return other.map(|file| (new, file)),
         }
     }
 }
 
-/// Files beside another that `replace` didn't come to rename, since the server was killed.
-pub fn left_over(path: &Path) -> Vec<PathBuf> {
+/// How many files stand beside another that were never brought to its place, since the server was killed.
+pub fn left_over(path: &Path) -> usize {
     let (Some(folder), Some(name)) = (path.parent(), path.file_name()) else {
-        return Vec::new();
+        return 0;
     };
     let name = name.to_string_lossy();
+    let is_number = |text: &str| !text.is_empty() && text.bytes().all(|b| b.is_ascii_digit());
     let is_left = |other: &str| {
         let middle = other
             .strip_prefix(&*name)
             .and_then(|rest| rest.strip_prefix('.')?.strip_suffix(".new"));
-        middle.is_some_and(|m| m.starts_with(|c: char| c.is_ascii_digit()) && m.contains('-'))
+        middle
+            .and_then(|m| m.split_once('-'))
+            .is_some_and(|(id, count)| is_number(id) && is_number(count))
     };
     let entries = fs::read_dir(folder).into_iter().flatten().flatten();
-    let mut left: Vec<PathBuf> = entries
-        .filter(|e| is_left(&e.file_name().to_string_lossy()))
-        .map(|e| e.path())
-        .collect();
-    left.sort();
-    left
+    entries.filter(|e| is_left(&e.file_name().to_string_lossy())).count()
 }

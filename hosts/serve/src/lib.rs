@@ -6,6 +6,7 @@ pub mod echo;
 pub mod fault;
 pub mod files;
 pub mod framing;
+pub mod inbox;
 pub mod line;
 pub mod link;
 pub mod sensors;
@@ -13,9 +14,22 @@ pub mod server;
 pub mod sys;
 pub mod volume;
 
-use std::io::Write;
+use std::io::{stderr, Write};
+use std::sync::atomic::{AtomicU64, Ordering};
 
-/// A message for the one who runs the server. A standard error that nobody reads is no reason to stop.
+/// Messages that nobody has read.
+static DROPPED: AtomicU64 = AtomicU64::new(0);
+
+/// A message for the one who runs the server. A standard error that nobody reads is no reason to stop or to wait.
 pub fn say(message: &str) {
-    let _ = writeln!(std::io::stderr(), "serve: {message}");
+    let mut output = stderr();
+    if !sys::is_writable(&output) {
+        DROPPED.fetch_add(1, Ordering::Relaxed);
+        return;
+    }
+    let dropped = match DROPPED.swap(0, Ordering::Relaxed) {
+        0 => String::new(),
+        count => format!("serve: {count} messages before this one were dropped, since nobody read them\n"),
+    };
+    let _ = output.write_all(format!("{dropped}serve: {message}\n").as_bytes());
 }

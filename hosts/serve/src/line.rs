@@ -1,6 +1,6 @@
 //! The line: a serial device, or a pseudo-terminal that clients open as one.
 
-use crate::echo::{Echo, Heard};
+use crate::echo::{Echo, Heard, Suspicion, Verdict, HELD_BACK};
 use crate::framing;
 use crate::link::Link;
 use crate::say;
@@ -14,8 +14,10 @@ use std::time::{Duration, Instant};
 
 /// How long a line or a client may leave a reply before it is dropped: a master has given up by then.
 pub const PATIENCE: Duration = Duration::from_secs(1);
-/// How long an adapter may hold back the rest of an echo that has begun.
-const HELD_BACK: Duration = Duration::from_millis(100);
+
+const HANDS_BACK: &str = "the line hands back what is sent; it is dropped. --echo makes sure of it";
+const LEFT_OUT: &str =
+    "a write has come many times right after its reply, and is left out once. If the line hands back what is sent, --echo is needed";
 
 /// Whether the line hands back what is sent.
 #[derive(Clone, Copy, PartialEq)]
@@ -24,6 +26,8 @@ enum Echoes {
     Yes,
     /// A device: what equals the reply and comes while it is sent, or in the silence after it, is no client's.
     Perhaps,
+    /// A device that was seen to do so.
+    Seen,
     /// The server's own pseudo-terminal, which has no wire.
     No,
 }
@@ -39,8 +43,9 @@ pub struct Line {
     /// What ends a frame.
     pub silence: Duration,
     echoes: Echoes,
-    /// What was said once already.
-    told: bool,
+    suspicion: Suspicion,
+    /// What was said, which is said once.
+    told: Vec<&'static str>,
 }
 
 impl Line {
@@ -55,7 +60,7 @@ impl Line {
         let told = |e: io::Error| e.to_string();
         let file = open_line(path).map_err(told)?;
         lock(&file)?;
-        sys::set_raw(&file, options.speed, options.parity).map_err(told)?;
+        sys::set_raw(&file, options.speed, parity(&file, options.parity).map_err(told)?).map_err(told)?;
         if let Some(rts) = options.rs485 {
             sys::set_rs485(&file, rts).map_err(|e| format!("the kernel can't switch its RS-485 driver (--rs485): {e}"))?;
         }
@@ -63,7 +68,6 @@ impl Line {
         Ok(Line::new(path.to_path_buf(), file, options))
     }
 
-    /// A pseudo-terminal has no parity, and the C library may refuse to set one.
     fn pty(options: &Options) -> Result<Line, String> {
         let told = |e: io::Error| format!("there is no pseudo-terminal to be had: {e}");
         let (file, path) = sys::open_pty().map_err(told)?;
@@ -91,7 +95,8 @@ impl Line {
             speed: options.speed,
             silence: options.silence.unwrap_or(framing::silence(options.speed)),
             echoes,
-            told: false,
+            suspicion: Suspicion::default(),
+            told: Vec::new(),
         }
     }
 
@@ -110,22 +115,52 @@ impl Line {
         }
     }
 
-    /// Sends a reply, and drops what the line hands back of it. Hands back what came in besides.
-    pub fn send(&mut self, reply: &[u8], stop: &File) -> Result<Vec<u8>, String> {
+    /// Whether a frame is a client's, and no reply that the line hands back late.
+    pub fn is_request(&mut self, frame: &[u8], began: Instant) -> bool {
+        if self.echoes == Echoes::No {
+            return true;
+        }
+        let verdict = self.suspicion.judge(frame, began);
+        match verdict {
+            Verdict::Request => {}
+            Verdict::LeftOut => self.tell(LEFT_OUT),
+            Verdict::Echo | Verdict::RequestAfterEcho => self.note_echo(),
+        }
+        matches!(verdict, Verdict::Request | Verdict::RequestAfterEcho)
+    }
+
+    /// Sends a reply, and drops what the line hands back of it. Hands back what came in besides, in its parts.
+    pub fn send(&mut self, reply: &[u8], stop: &File) -> Result<Vec<Vec<u8>>, String> {
         if reply.is_empty() {
             return Ok(Vec::new());
         }
         self.calm()?;
-        let start = Instant::now();
-        if !self.write(reply, stop)? {
-            say("the line doesn't take the reply; it was dropped");
-            return Ok(Vec::new());
-        }
         if self.echoes == Echoes::No {
+            self.write(reply, stop)?;
             return Ok(Vec::new());
         }
-        let end = self.sent(start + framing::duration(reply.len(), self.speed), stop)?;
-        self.drop_echo(reply, end, stop)
+        let mut parts = vec![self.waiting()?];
+        let start = Instant::now();
+        if self.write(reply, stop)? {
+            let end = self.sent(start + framing::duration(reply.len(), self.speed), stop)?;
+            self.suspicion.replied(reply, end);
+            parts.extend(self.drop_echo(reply, end, stop)?);
+        }
+        parts.retain(|part| !part.is_empty());
+        Ok(parts)
+    }
+
+    /// What has come in before anything is sent: no echo.
+    fn waiting(&mut self) -> Result<Vec<u8>, String> {
+        let mut bytes = Vec::new();
+        let mut buffer = [0; 512];
+        while bytes.len() < buffer.len() {
+            match self.read(&mut buffer)? {
+                [] => break,
+                more => bytes.extend_from_slice(more),
+            }
+        }
+        Ok(bytes)
     }
 
     /// Writes a reply, and hands back whether the line took it all.
@@ -137,7 +172,10 @@ impl Line {
                 Err(e) if e.kind() != ErrorKind::WouldBlock => return Err(self.failed(e)),
                 Err(_) => match sys::wait(&self.file, Wish::Write, stop, Some(PATIENCE)) {
                     Ok(Event::Ready) => {}
-                    Ok(_) => return Ok(false),
+                    Ok(_) => {
+                        self.tell("the line doesn't take a reply; it is dropped");
+                        return Ok(false);
+                    }
                     Err(e) => return Err(self.failed(e)),
                 },
             }
@@ -159,36 +197,53 @@ impl Line {
         Ok(end.max(Instant::now()))
     }
 
-    /// Drops the echo of a reply whose last bit was sent at `end`.
-    fn drop_echo(&mut self, reply: &[u8], end: Instant, stop: &File) -> Result<Vec<u8>, String> {
+    /// Drops the echo of a reply whose last bit was sent at `end`. It is waited for where it has to come, but not long after as many bytes have come.
+    fn drop_echo(&mut self, reply: &[u8], end: Instant, stop: &File) -> Result<Vec<Vec<u8>>, String> {
+        let sure = self.echoes != Echoes::Perhaps;
         let mut echo = Echo::of(reply);
         let mut buffer = [0; 512];
-        let mut until = end + if self.echoes == Echoes::Yes { PATIENCE } else { self.silence };
-        while echo.is_open() {
+        let mut last = end;
+        let mut until = end + if sure { PATIENCE } else { self.silence };
+        while !echo.is_over() {
             match self.wait(stop, Some(until.saturating_duration_since(Instant::now())))? {
-                Event::Ready => echo.push(self.read(&mut buffer)?),
+                Event::Ready => echo.push(self.read(&mut buffer)?, last.elapsed() > self.silence),
                 Event::Stop | Event::Timeout => break,
             }
-            if echo.has_begun() {
-                until = until.max(Instant::now() + HELD_BACK);
-            }
+            last = Instant::now();
+            until = match sure {
+                true if echo.is_long_enough() => last + HELD_BACK,
+                false if echo.has_begun() => until.max(last + HELD_BACK),
+                _ => until,
+            };
         }
-        let (heard, rest) = echo.end();
-        self.tell_echo(heard);
-        Ok(rest)
+        let (heard, parts) = echo.end();
+        self.learn(heard);
+        Ok(parts)
     }
 
-    fn tell_echo(&mut self, heard: Heard) {
-        let message = match (self.echoes, heard) {
-            (Echoes::Perhaps, Heard::Echo) => "the line hands back what is sent; it is dropped. --echo makes sure of it",
-            (Echoes::Yes, Heard::Nothing) => "the line hands nothing back; it doesn't want --echo",
-            (Echoes::Yes, Heard::Other) => "the line hands back something else than was sent; it is taken for a request",
-            _ => return,
-        };
-        if !self.told {
+    /// What was heard of a reply tells what the line does.
+    fn learn(&mut self, heard: Heard) {
+        match (self.echoes, heard) {
+            (Echoes::Perhaps, Heard::Echo) => self.note_echo(),
+            (Echoes::Seen, Heard::Nothing) => self.echoes = Echoes::Perhaps,
+            (Echoes::Yes, Heard::Nothing) => self.tell("the line hands nothing back; it doesn't want --echo"),
+            (Echoes::Yes, Heard::Other) => self.tell("no echo of a reply has come; what came instead is taken for a request"),
+            _ => {}
+        }
+    }
+
+    fn note_echo(&mut self) {
+        if self.echoes == Echoes::Perhaps {
+            self.echoes = Echoes::Seen;
+            self.tell(HANDS_BACK);
+        }
+    }
+
+    fn tell(&mut self, message: &'static str) {
+        if !self.told.contains(&message) {
+            self.told.push(message);
             say(message);
         }
-        self.told = true;
     }
 
     /// Switches off the echo of a pseudo-terminal, which a client may have switched on: it would hand back each reply.
@@ -197,7 +252,7 @@ impl Line {
         let failed = |e| self.failed(e);
         if sys::has_echo(clients).map_err(failed)? {
             sys::set_raw(clients, self.speed, Parity::None).map_err(failed)?;
-            say("a client has switched on the pseudo-terminal's echo; it is off again");
+            self.tell("a client has switched on the pseudo-terminal's echo; it is off again");
         }
         Ok(())
     }
@@ -214,6 +269,11 @@ impl Line {
     fn failed(&self, error: io::Error) -> String {
         format!("the line {} failed: {error}", self.path.display())
     }
+}
+
+/// A pseudo-terminal has no parity, and the C library may refuse to set one.
+fn parity(line: &File, wanted: Parity) -> io::Result<Parity> {
+    Ok(if sys::is_pty(line)? { Parity::None } else { wanted })
 }
 
 /// Keeps a second server off, by whatever name it opens the line.

@@ -1,10 +1,12 @@
 //! A stable name of the pseudo-terminal, whose own is another at each start.
 
 use crate::files::resolved_folder;
+use std::ffi::{OsStr, OsString};
 use std::fs;
 use std::hash::{DefaultHasher, Hash, Hasher};
 use std::io::{self, ErrorKind};
 use std::os::linux::net::SocketAddrExt;
+use std::os::unix::ffi::OsStrExt;
 use std::os::unix::fs::symlink;
 use std::os::unix::net::{SocketAddr, UnixListener};
 use std::path::{Path, PathBuf};
@@ -34,7 +36,7 @@ impl Link {
 
 impl Drop for Link {
     fn drop(&mut self) {
-        if fs::read_link(&self.path).is_ok_and(|line| line == self.line) {
+        if fs::read_link(&self.path).is_ok_and(|line| line == target(&self.line)) {
             let _ = fs::remove_file(&self.path);
         }
     }
@@ -52,16 +54,26 @@ fn claimed(path: &Path) -> io::Result<UnixListener> {
 }
 
 fn put(path: &Path, line: &Path) -> io::Result<()> {
-    match symlink(line, path) {
+    match symlink(target(line), path) {
         Err(e) if e.kind() == ErrorKind::AlreadyExists && is_left(path) => {
             fs::remove_file(path)?;
-            symlink(line, path)
+            symlink(target(line), path)
         }
         made => made,
     }
 }
 
-/// Whether it is a link to a pseudo-terminal. No server has it: that is known by now.
+/// How a server writes the path of its line, so that it knows the link of another that is gone: `/dev/./pts/N`, which is the same place.
+const MARK: &str = "/dev/./pts/";
+
+fn target(line: &Path) -> OsString {
+    match line.strip_prefix("/dev/pts") {
+        Ok(number) => OsString::from_iter([OsStr::new(MARK), number.as_os_str()]),
+        Err(_) => line.into(),
+    }
+}
+
+/// Whether it is a server's link. None has it: that is known by now.
 fn is_left(path: &Path) -> bool {
-    fs::read_link(path).is_ok_and(|line| line.starts_with("/dev/pts"))
+    fs::read_link(path).is_ok_and(|line| line.as_os_str().as_bytes().starts_with(MARK.as_bytes()))
 }

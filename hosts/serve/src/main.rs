@@ -9,7 +9,7 @@ fn main() -> ExitCode {
         Err(message) => told(&message),
         Ok(Command::Help) => print(&help()),
         Ok(Command::Version) => print(concat!("serve ", env!("CARGO_PKG_VERSION"), "\n")),
-        Ok(Command::Check(path)) => ended(volume::check(&path).map(|said| println!("{said}"))),
+        Ok(Command::Check(path)) => volume::check(&path).map_or_else(|fault| ended(Err(fault)), |said| print(&said)),
         Ok(Command::Serve(options)) => ended(server::serve(&options)),
     }
 }

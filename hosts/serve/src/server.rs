@@ -1,11 +1,11 @@
 //! The loop: cut a frame, let the library answer it, keep the volume safe, send the reply.
 
 use crate::date;
-use crate::framing::Framer;
-use crate::line::{Line, PATIENCE};
+use crate::inbox::Inbox;
+use crate::line::Line;
 use crate::say;
 use crate::sensors::Sensors;
-use crate::sys::{self, Event};
+use crate::sys;
 use crate::volume::VolumeFile;
 use serve_options::Options;
 use sonde::{Sonde, REPLY_BYTES};
@@ -25,29 +25,15 @@ pub fn serve(options: &Options) -> Result<(), String> {
 
 /// Answers frame after frame until `stop` can be read.
 fn exchange(mut server: Server, mut line: Line, stop: &File) -> Result<(), String> {
-    let mut framer = Framer::default();
-    let mut replied = false;
-    let mut buffer = [0; 512];
-    loop {
-        let timeout = match framer.is_empty() {
-            true => replied.then_some(PATIENCE),
-            false => Some(line.silence),
-        };
-        match line.wait(stop, timeout)? {
-            Event::Stop => return Ok(()),
-            Event::Ready => framer.push(line.read(&mut buffer)?),
-            Event::Timeout if framer.is_empty() => {
-                line.forget()?;
-                replied = false;
-            }
-            Event::Timeout => {
-                let mut reply = [0; REPLY_BYTES];
-                let reply = server.answer(&framer.take(), &mut reply)?;
-                framer.push(&line.send(reply, stop)?);
-                replied = true;
-            }
+    let mut inbox = Inbox::default();
+    while let Some((frame, began)) = inbox.next(&mut line, stop)? {
+        if line.is_request(&frame, began) {
+            let mut reply = [0; REPLY_BYTES];
+            let reply = server.answer(&frame, &mut reply)?;
+            inbox.put(line.send(reply, stop)?);
         }
     }
+    Ok(())
 }
 
 /// The first line of standard output, by which scripts find the line.

@@ -1,11 +1,13 @@
 //! The calls of the C library that std doesn't have, with glibc's types on x86-64 (libsonde.a is for no other machine). All the unsafe code
-//! of this host is in the two modules below.
+//! of this host is in the three modules below.
 
 mod events;
+mod files;
 mod terminal;
 
-pub use events::{stop_signals, stopped, wait, Event, Wish};
-pub use terminal::{drain, drop_input, has_echo, open_pty, set_raw, set_rs485, unsent, LINE_FLAGS};
+pub use events::{is_writable, stop_signals, stopped, wait, Event, Wish};
+pub use files::{exchange, rename_new};
+pub use terminal::{drain, drop_input, has_echo, is_pty, open_pty, set_raw, set_rs485, unsent, LINE_FLAGS};
 
 use std::ffi::c_int;
 use std::io;

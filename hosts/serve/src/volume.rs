@@ -1,9 +1,10 @@
 //! The volume in its file: the words in order, each with its high byte first, and nothing else.
 
 use crate::fault;
-use crate::files::{beside, left_over, open_regular, read_most, replace, resolved, writable, Identity, Lock};
+use crate::files::{self, beside, left_over, open_itself, open_regular, read_most, resolved, Identity, Lock, Written};
 use crate::say;
 use sonde::{Sonde, LEAST_WORDS};
+use std::fs::File;
 use std::path::{Path, PathBuf};
 
 /// Entries that a volume can have at most: they fill 48128 bytes.
@@ -52,10 +53,13 @@ impl VolumeFile {
     /// Powers a sonde up from one volume, which stays as it is, and begins another with its calibrations.
     pub fn succeed(path: &Path, new: &Path, address: u8, entries: Option<usize>) -> Result<(VolumeFile, Sonde), String> {
         if Identity::at(new).is_ok() {
-            let new = new.display();
-            return Err(format!(
-                "--new-volume {new}: it exists, and nothing is overwritten. --volume {new} serves it"
-            ));
+            let (serves, new) = (new.is_file(), new.display());
+            let hint = if serves {
+                format!(". --volume {new} serves it")
+            } else {
+                String::new()
+            };
+            return Err(format!("--new-volume {new}: it exists, and nothing is overwritten{hint}"));
         }
         let new_place = resolved(new).map_err(named(new))?;
         let place = resolved(path).map_err(named(path))?;
@@ -64,12 +68,22 @@ impl VolumeFile {
     }
 
     fn present(place: &Path, address: u8) -> Result<(VolumeFile, Sonde), String> {
-        if !writable(place)? {
+        if !files::writable(place)? {
             return Err(
                 "the file is write-protected, so no calibration could be kept; --check FILE looks at it without writing".to_string(),
             );
         }
-        let ((saved, sonde), lock) = locked(place, || power_up(place, address))?;
+        let names = files::names(place)?;
+        if names > 1 {
+            return Err(format!(
+                "the file has {names} names (hard links), and a calibration would reach only this one"
+            ));
+        }
+        let ((saved, sonde), lock) = locked(place, || {
+            let found = power_up(place, address)?;
+            files::can_replace(place).map_err(|e| format!("its folder takes no new file, so no calibration could be kept: {e}"))?;
+            Ok(found)
+        })?;
         Ok((VolumeFile::new(place, saved, lock, None), sonde))
     }
 
@@ -86,11 +100,12 @@ impl VolumeFile {
     }
 
     fn new(place: &Path, saved: Content, lock: Lock, before: Option<Lock>) -> VolumeFile {
-        for left in left_over(place) {
-            say(&format!(
-                "{} is left from a write that was cut short; it isn't used",
-                left.display()
-            ));
+        match left_over(place) {
+            0 => {}
+            count => say(&format!(
+                "{}.*.new: {count} left from writes that were cut short; they aren't used",
+                place.display()
+            )),
         }
         VolumeFile {
             path: place.to_path_buf(),
@@ -116,30 +131,35 @@ impl VolumeFile {
         if self.words == self.saved.words {
             return Ok(false);
         }
-        let written = self.untouched().and_then(|()| write(&self.path, &self.words));
-        let failed = |e| format!("{} can't be written: {e}; the calibration is not in it", self.path.display());
-        self.saved.identity = written.map_err(failed)?;
+        let unkept = |e| format!("{} can't be written: {e}; the calibration is not in it", self.path.display());
+        let written = self.replace().map_err(unkept)?;
+        self.saved.identity = written.identity;
         self.saved.words.clone_from(&self.words);
-        Ok(true)
+        let unsure = |e| format!("{} is written, but may not outlast a power cut: {e}", self.path.display());
+        written.synced.map(|()| true).map_err(unsure)
     }
 
-    /// Whether nobody else has been at the file.
-    fn untouched(&self) -> Result<(), String> {
+    fn replace(&self) -> Result<Written, String> {
         if !self.lock.is_held() {
             return Err("its lock file was removed or replaced, so another server may have it".to_string());
         }
-        let there = Content::read(&self.path).map_err(|e| format!("what was last written isn't there ({e})"))?;
-        if there.identity != self.saved.identity || there.words != self.saved.words {
-            return Err("another program has changed it, and nothing is overwritten".to_string());
-        }
-        Ok(())
+        files::replace(&self.path, &to_bytes(&self.words), |path| self.saved.is_at(path))
     }
 }
 
 impl Content {
+    /// Whether nobody else has been at the file.
+    fn is_at(&self, path: &Path) -> Result<(), String> {
+        let there = open_itself(path).and_then(Content::of);
+        let there = there.map_err(|e| format!("what was last written isn't there ({e})"))?;
+        if there.identity != self.identity || there.words != self.words {
+            return Err("another program has changed it, and nothing is overwritten".to_string());
+        }
+        Ok(())
+    }
+
     /// The words of a file that may be a volume. Whether it is one, power-up decides.
-    fn read(path: &Path) -> Result<Content, String> {
-        let file = open_regular(path)?;
+    fn of(file: File) -> Result<Content, String> {
         let bytes = read_most(&file, MOST_BYTES + 1).map_err(|e| e.to_string())?;
         match bytes.len() {
             length if length > MOST_BYTES => Err(format!("the file has more than {MOST_BYTES} bytes, the most that is read here")),
@@ -157,7 +177,7 @@ impl Content {
 pub fn check(path: &Path) -> Result<String, String> {
     let (content, _) = power_up(path, 1).map_err(named(path))?;
     let (used, room) = (content.words[2], content.words[1]);
-    Ok(format!("{}: a valid volume; {used} of {room} entries are in use", path.display()))
+    Ok(format!("{}: a valid volume; {used} of {room} entries are in use\n", path.display()))
 }
 
 /// Does something with a volume while it is locked. Where that is refused, no new lock file is left.
@@ -173,7 +193,7 @@ fn locked<T>(place: &Path, work: impl FnOnce() -> Result<T, String>) -> Result<(
 }
 
 fn power_up(path: &Path, address: u8) -> Result<(Content, Sonde), String> {
-    let content = Content::read(path)?;
+    let content = open_regular(path).and_then(Content::of)?;
     let sonde = Sonde::power_up(address, &content.words).map_err(|e| refusal(e, &content.words))?;
     Ok((content, sonde))
 }
@@ -190,15 +210,10 @@ fn refusal(error: sonde::Error, words: &[u16]) -> String {
 fn begin(place: &Path, sonde: &Sonde, entries: usize) -> Result<Content, String> {
     let mut words = vec![0; 64 + 24 * entries];
     sonde.begin(&mut words).map_err(|e| e.to_string())?;
-    if Identity::at(place).is_ok() {
-        return Err("another program has just made it, and nothing is overwritten".to_string());
-    }
-    let identity = write(place, &words).map_err(|e| format!("it can't be written: {e}"))?;
+    let written = files::create(place, &to_bytes(&words)).map_err(|e| format!("it can't be begun: {e}"))?;
+    let unsure = |e| format!("it is begun, but may not outlast a power cut: {e}");
+    let identity = written.synced.map(|()| written.identity).map_err(unsure)?;
     Ok(Content { words, identity })
-}
-
-fn write(path: &Path, words: &[u16]) -> Result<Identity, String> {
-    replace(path, &to_bytes(words)).map_err(|e| e.to_string())
 }
 
 fn named(path: &Path) -> impl Fn(String) -> String + '_ {

@@ -9,6 +9,9 @@ use std::ptr::{null, null_mut};
 use std::time::Duration;
 
 const SIG_BLOCK: c_int = 0;
+const SIG_DFL: usize = 0;
+const SIG_IGN: usize = 1;
+const SIGHUP: c_int = 1;
 const SIGINT: c_int = 2;
 const SIGTERM: c_int = 15;
 const SFD_CLOEXEC: c_int = 0o2000000;
@@ -36,16 +39,22 @@ extern "C" {
     fn sigaddset(set: *mut SignalSet, signal: c_int) -> c_int;
     fn sigprocmask(how: c_int, set: *const SignalSet, old: *mut SignalSet) -> c_int;
     fn signalfd(fd: c_int, set: *const SignalSet, flags: c_int) -> c_int;
+    fn signal(signal: c_int, handler: usize) -> usize;
 }
 
-/// A file that can be read once SIGINT or SIGTERM has come. They do nothing else from now on, so none is lost and none cuts a write short.
+/// A file that can be read once SIGINT, SIGTERM or SIGHUP has come. They do nothing else from now on, so none is lost and none cuts a write
+/// short. A SIGHUP that is ignored (nohup) stays so.
 pub fn stop_signals() -> io::Result<File> {
     let mut set = SignalSet::default();
-    // SAFETY: the set is as glibc declares it, and signalfd hands back a descriptor that nobody else owns.
+    // SAFETY: the set is as glibc declares it, signal sets no handler of this program, and signalfd hands back a descriptor that nobody else owns.
     unsafe {
         done(sigemptyset(&mut set))?;
         done(sigaddset(&mut set, SIGINT))?;
         done(sigaddset(&mut set, SIGTERM))?;
+        match signal(SIGHUP, SIG_DFL) {
+            SIG_IGN => drop(signal(SIGHUP, SIG_IGN)),
+            _ => drop(done(sigaddset(&mut set, SIGHUP))?),
+        }
         done(sigprocmask(SIG_BLOCK, &set, null_mut()))?;
         Ok(File::from_raw_fd(done(signalfd(-1, &set, SFD_CLOEXEC))?))
     }
@@ -63,6 +72,22 @@ pub enum Event {
     Stop,
     Ready,
     Timeout,
+}
+
+/// Whether a write wouldn't be waited for; of a pipe, one of up to 4096 bytes.
+pub fn is_writable(output: &impl AsRawFd) -> bool {
+    let mut fds = [PollFd {
+        fd: output.as_raw_fd(),
+        events: Wish::Write as c_short,
+        revents: 0,
+    }];
+    let now = Timespec {
+        seconds: 0,
+        nanoseconds: 0,
+    };
+    // SAFETY: the array is lent with its length; the time is alive; no mask.
+    let ready = unsafe { ppoll(fds.as_mut_ptr(), 1, &now, null()) };
+    ready != 0
 }
 
 /// Whether `stop` can be read within this time.

@@ -7,18 +7,23 @@ use std::fs::File;
 use std::io;
 use std::os::fd::{AsRawFd, FromRawFd};
 use std::os::unix::ffi::OsStrExt;
+use std::os::unix::fs::MetadataExt;
 use std::path::PathBuf;
 
 /// Flags of open: no controlling terminal, no waiting.
 pub const LINE_FLAGS: c_int = 0o400 | 0o4000;
 const O_RDWR: c_int = 0o2;
 const O_CLOEXEC: c_int = 0o2000000;
+const IGNPAR: c_uint = 0o4;
 const INPCK: c_uint = 0o20;
+const IXANY: c_uint = 0o4000;
+const IXOFF: c_uint = 0o10000;
 const CSTOPB: c_uint = 0o100;
 const CREAD: c_uint = 0o200;
 const PARENB: c_uint = 0o400;
 const PARODD: c_uint = 0o1000;
 const CLOCAL: c_uint = 0o4000;
+const CMSPAR: c_uint = 0o10000000000;
 const CRTSCTS: c_uint = 0o20000000000;
 const ECHO: c_uint = 0o10;
 const TCSANOW: c_int = 0;
@@ -96,14 +101,14 @@ pub fn set_raw(line: &File, speed: u32, parity: Parity) -> io::Result<()> {
         cfmakeraw(&mut termios);
         done(cfsetspeed(&mut termios, speed))?;
     }
-    termios.cflag &= !(CSTOPB | PARENB | PARODD | CRTSCTS);
+    termios.cflag &= !(CSTOPB | PARENB | PARODD | CMSPAR | CRTSCTS);
     termios.cflag |= CREAD | CLOCAL;
     termios.cflag |= match parity {
         Parity::None => CSTOPB,
         Parity::Even => PARENB,
         Parity::Odd => PARENB | PARODD,
     };
-    termios.iflag &= !INPCK;
+    termios.iflag &= !(INPCK | IGNPAR | IXANY | IXOFF);
     if parity != Parity::None {
         termios.iflag |= INPCK;
     }
@@ -115,6 +120,12 @@ pub fn set_raw(line: &File, speed: u32, parity: Parity) -> io::Result<()> {
 pub fn drop_input(line: &File) -> io::Result<()> {
     // SAFETY: the descriptor is open.
     done(unsafe { tcflush(line.as_raw_fd(), TCIFLUSH) }).map(|_| ())
+}
+
+/// Whether a terminal is a pseudo-terminal: Linux numbers their drivers so.
+pub fn is_pty(line: &File) -> io::Result<bool> {
+    let device = line.metadata()?.rdev();
+    Ok((136..=143).contains(&(device >> 8 & 0xFFF)))
 }
 
 /// Whether a terminal hands back what it is given.

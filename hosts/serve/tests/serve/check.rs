@@ -19,6 +19,28 @@ fn a_valid_volume_is_told_and_nothing_is_written() {
 }
 
 #[test]
+fn the_status_tells_where_nothing_can_be_written() {
+    let folder = Folder::new();
+    folder.write("archive", bytes(&calibrated()));
+    for (words, expected) in [
+        ("--check archive", 0),
+        ("--check none", 1),
+        ("--bogus", 2),
+        ("--help", 0),
+        ("--version", 0),
+    ] {
+        let full = || fs::File::options().write(true).open("/dev/full").unwrap();
+        let mut command = Command::new(env!("CARGO_BIN_EXE_serve"));
+        command
+            .current_dir(&folder.0)
+            .args(words.split_whitespace())
+            .stdout(full())
+            .stderr(full());
+        assert_eq!(command.status().unwrap().code(), Some(expected), "{words}");
+    }
+}
+
+#[test]
 fn a_volume_that_is_served_can_be_checked() {
     let folder = Folder::new();
     let _server = folder.serve("--entries 3");

@@ -85,6 +85,133 @@ fn echo_waits_for_the_bytes_that_were_sent_and_drops_no_others() {
     assert_eq!(server.stop("TERM"), (0, String::new()));
 }
 
+/// A client that asked again before the reply came is heard, and the echo behind its request is still dropped.
+#[test]
+fn echo_is_found_behind_a_request() {
+    let folder = Folder::new();
+    let server = folder.serve(&format!("--echo {START}"));
+    let mut client = server.client();
+    for (body, expected) in preparation() {
+        client.ask_with_echo(&body, &expected);
+    }
+    client.ask(&UPDATE, &UPDATE);
+    client.send(&[framed(&VERSION.0), framed(&UPDATE)].concat());
+    assert_eq!(client.receive(7, Duration::from_secs(10)), framed(&VERSION.1));
+    client.send(&framed(&VERSION.1));
+    client.hears_nothing();
+    assert_eq!(folder.read("sonde.volume"), bytes(&calibrated()));
+    assert_eq!(server.stop("TERM"), (0, String::new()));
+}
+
+#[test]
+fn an_echo_that_was_cut_short_spoils_no_request() {
+    let folder = Folder::new();
+    let server = folder.serve("--echo");
+    let mut client = server.client();
+    for length in [1, 4, 6] {
+        client.ask(&VERSION.0, &VERSION.1);
+        client.send(&framed(&VERSION.1)[..length]);
+        sleep(Duration::from_millis(30));
+        client.ask_with_echo(&JOURNAL, &[1, 3, 4, 3, 0xE8, 0, 0]);
+    }
+    client.ask_with_echo(&[1, 3, 0, 4, 0, 3], &[1, 3, 6, 0, 6, 0, 0, 0, 0]); // six good frames, none bad
+    assert_eq!(server.stop("TERM"), (0, String::new()));
+}
+
+#[test]
+fn an_echo_that_was_spoilt_is_one_bad_frame() {
+    let folder = Folder::new();
+    let server = folder.serve("--echo");
+    let mut client = server.client();
+    let mut spoilt = framed(&VERSION.1);
+    spoilt[3] ^= 1;
+    for echo in [&spoilt[..], &spoilt[1..]] {
+        client.ask(&VERSION.0, &VERSION.1);
+        client.send(echo);
+        sleep(Duration::from_millis(30));
+        client.ask_with_echo(&JOURNAL, &[1, 3, 4, 3, 0xE8, 0, 0]);
+    }
+    client.ask_with_echo(&[1, 3, 0, 4, 0, 3], &[1, 3, 6, 0, 4, 0, 2, 0, 0]);
+    let message = "serve: no echo of a reply has come; what came instead is taken for a request\n";
+    assert_eq!(server.stop("TERM"), (0, message.to_string()));
+}
+
+/// Without --echo, from an adapter that holds bytes back for longer than the silence.
+const LATE: Duration = Duration::from_millis(30);
+
+fn late(client: &mut Client, body: &[u8], expected: &[u8]) {
+    client.ask(body, expected);
+    sleep(LATE);
+    client.send(&framed(expected));
+}
+
+#[test]
+fn a_late_echo_of_a_read_is_known_by_its_shape() {
+    let folder = Folder::new();
+    let (wire, device) = open_pty().unwrap();
+    let server = folder.serve(&format!("--device {} {START}", device.display()));
+    let mut client = Client(wire);
+    late(&mut client, &VERSION.0, &VERSION.1);
+    client.hears_nothing();
+    for (body, expected) in preparation() {
+        late(&mut client, &body, &expected); // from then on an echo is waited for
+    }
+    late(&mut client, &UPDATE, &UPDATE);
+    client.hears_nothing();
+    assert_eq!(folder.read("sonde.volume"), bytes(&calibrated()));
+    let message = "serve: the line hands back what is sent; it is dropped. --echo makes sure of it\n";
+    assert_eq!(server.stop("TERM"), (0, message.to_string()));
+}
+
+#[test]
+fn a_loop_of_late_echoes_is_cut() {
+    let folder = Folder::new();
+    let (wire, device) = open_pty().unwrap();
+    let server = folder.serve(&format!("--device {} {START}", device.display()));
+    let mut client = Client(wire);
+    let on = [1, 6, 0, 105, 0xE0, 0x00];
+    late(&mut client, &on, &on);
+    let mut loops = 0;
+    while client.receive(8, PAUSE) == framed(&on) {
+        loops += 1;
+        assert!(loops < 100);
+        sleep(LATE);
+        client.send(&framed(&on));
+    }
+    assert_eq!(loops, 10);
+    for (body, expected) in &preparation()[1..] {
+        late(&mut client, body, expected);
+    }
+    late(&mut client, &UPDATE, &UPDATE);
+    client.hears_nothing();
+    assert_eq!(folder.read("sonde.volume"), bytes(&calibrated()));
+    let (_, said) = server.stop("TERM");
+    let lines: Vec<&str> = said.lines().collect();
+    assert!(lines[0].contains("left out once") && lines[0].contains("--echo"), "{said}");
+    assert!(lines[1].contains("hands back what is sent"), "{said}");
+    assert_eq!(lines.len(), 2);
+}
+
+#[test]
+fn a_client_that_repeats_itself_has_one_frame_left_out() {
+    let folder = Folder::new();
+    let (wire, device) = open_pty().unwrap();
+    let server = folder.serve(&format!("--device {} --silence 1", device.display()));
+    let mut client = Client(wire);
+    let on = framed(&[1, 6, 0, 105, 0xE0, 0x00]);
+    let mut unanswered = 0;
+    for _ in 0..40 {
+        client.send(&on);
+        while client.receive(8, PAUSE) != on {
+            unanswered += 1;
+            client.send(&on); // after its time-out
+        }
+        sleep(Duration::from_millis(20)); // a reply of 4.6 ms, and the silence
+    }
+    assert_eq!(unanswered, 1);
+    assert!(server.stop("TERM").1.contains("left out once"));
+}
+
 #[test]
 fn echo_on_a_line_without_one_is_told_and_served() {
     let folder = Folder::new();
@@ -108,7 +235,7 @@ fn a_request_that_is_no_echo_is_told_and_served() {
     let (_, said) = server.stop("TERM");
     assert_eq!(
         said,
-        "serve: the line hands back something else than was sent; it is taken for a request\n"
+        "serve: no echo of a reply has come; what came instead is taken for a request\n"
     );
 }
 

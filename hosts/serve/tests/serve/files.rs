@@ -24,6 +24,7 @@ fn only_regular_files_are_served_and_nothing_is_left_beside_others() {
         ("--volume folder", "the volume folder: it is a folder"),
         ("--volume dangling", "the volume dangling: it is a link that leads to no file"),
         ("--volume nowhere/sonde", "the volume nowhere/sonde: No such file"),
+        ("--volume sonde/", "the volume sonde/: No such file"),
         ("--volume fifo --new-volume new", "the volume fifo: it is no regular file"),
         ("--raws fifo", "fifo: it is no regular file"),
     ] {
@@ -48,6 +49,84 @@ fn a_write_protected_file_is_refused_at_the_start() {
     let server = folder.serve("--new-volume new --entries 3");
     assert_eq!(folder.read("new"), bytes(&begun()));
     assert_eq!(server.stop("TERM"), (0, String::new()));
+}
+
+#[test]
+fn a_file_with_two_names_is_refused() {
+    let folder = Folder::new();
+    folder.write("sonde.volume", bytes(&begun()));
+    fs::hard_link(folder.path("sonde.volume"), folder.path("other")).unwrap();
+    let (status, said) = folder.refused("");
+    assert_eq!(status, 1);
+    assert!(said.contains("the file has 2 names"), "{said}");
+    assert_eq!(folder.names(), ["other", "sonde.volume"]);
+}
+
+/// A name of 250 bytes leaves no room for the ending of a new file.
+#[test]
+fn a_file_that_could_not_be_replaced_is_refused_at_the_start() {
+    let folder = Folder::new();
+    let name = "v".repeat(247);
+    folder.write(&name, bytes(&begun()));
+    let (status, said) = folder.refused(&format!("--volume {name}"));
+    assert_eq!(status, 1);
+    assert!(said.contains("its folder takes no new file"), "{said}");
+    assert_eq!(folder.names(), [name]);
+}
+
+/// Stands for another program that is quicker: puts the file `race` in the place of the volume just before the server does.
+const RACE: &str = r#"
+#include <stdio.h>
+#include <sys/syscall.h>
+#include <unistd.h>
+int renameat2(int from, const char *old, int to, const char *new, unsigned flags) {
+    rename("race", new);
+    return syscall(SYS_renameat2, from, old, to, new, flags);
+}
+"#;
+
+#[test]
+fn a_program_that_was_quicker_loses_nothing() {
+    let folder = Folder::new();
+    folder.write("race.c", RACE);
+    let race = folder.path("race.so");
+    let mut cc = Command::new("cc");
+    cc.args(["-shared", "-fPIC", "-o"]).args([&race, &folder.path("race.c")]);
+    assert!(cc.status().unwrap().success());
+
+    folder.write("sonde.volume", bytes(&begun()));
+    let mut server = folder.serve_with("LD_PRELOAD", &race, "--clock 1767178241");
+    let mut client = server.client();
+    prepare(&mut client);
+    folder.write("race", "another's");
+    client.send(&framed(&UPDATE));
+    client.hears_nothing();
+    let (status, said) = server.ended();
+    assert_eq!(status, 1);
+    assert!(
+        said.contains("sonde.volume can't be written: what was last written isn't there"),
+        "{said}"
+    );
+    assert_eq!(folder.read("sonde.volume"), b"another's");
+
+    fs::remove_file(folder.path("sonde.volume")).unwrap();
+    folder.write("race", "another's");
+    let (status, said) = folder.refused_with("LD_PRELOAD", &race, "");
+    assert_eq!(status, 1);
+    assert!(said.contains("it can't be begun: File exists"), "{said}");
+    assert_eq!(folder.read("sonde.volume"), b"another's");
+    assert_eq!(folder.names(), ["race.c", "race.so", "sonde.volume", "sonde.volume.lock"]);
+}
+
+#[test]
+fn a_link_in_the_place_of_the_volume_is_not_followed() {
+    let folder = Folder::new();
+    let (server, mut client) = prepared(&folder);
+    fs::rename(folder.path("sonde.volume"), folder.path("moved")).unwrap();
+    symlink("moved", folder.path("sonde.volume")).unwrap();
+    stops(server, &mut client, "what was last written isn't there");
+    assert!(folder.path("sonde.volume").is_symlink());
+    assert_eq!(folder.read("moved"), bytes(&begun()));
 }
 
 #[test]
@@ -87,10 +166,8 @@ fn what_a_killed_server_left_is_told() {
     folder.write("sonde.volume.123-0.new", "half");
     folder.write("sonde.volume.new", "someone's");
     let (_, said) = folder.serve(START).stop("TERM");
-    assert!(
-        said.ends_with("/sonde.volume.123-0.new is left from a write that was cut short; it isn't used\n"),
-        "{said}"
-    );
+    let message = "/sonde.volume.*.new: 1 left from writes that were cut short; they aren't used\n";
+    assert!(said.ends_with(message), "{said}");
     assert_eq!(said.lines().count(), 1);
     assert_eq!(folder.read("sonde.volume.123-0.new"), b"half");
 }

@@ -81,6 +81,15 @@ impl Folder {
         server.ended()
     }
 
+    /// The same with an environment variable.
+    pub fn refused_with(&self, name: &str, value: &Path, words: &str) -> (i32, String) {
+        let mut command = self.command(SERVE, words);
+        command.env(name, value);
+        let mut server = self.spawn(command);
+        assert_eq!(server.path, PathBuf::new(), "{words}");
+        server.ended()
+    }
+
     /// Starts a server and waits until it serves.
     pub fn serve(&self, words: &str) -> Server {
         self.serving(self.command(SERVE, words), words)

@@ -123,6 +123,48 @@ fn a_device_is_served_and_its_end_is_told() {
     assert!(said.contains(&format!("the line {} failed", device.display())), "{said}");
 }
 
+/// A pseudo-terminal has no parity, whatever is given, at the second start too.
+#[test]
+fn a_device_is_set_as_the_line_wants_it() {
+    let folder = Folder::new();
+    let (_wire, device) = open_pty().unwrap();
+    let stty = |words: &[&str]| {
+        let output = std::process::Command::new("stty")
+            .arg("-F")
+            .arg(&device)
+            .args(words)
+            .output()
+            .unwrap();
+        String::from_utf8(output.stdout).unwrap()
+    };
+    stty(&["cmspar", "ignpar", "ixoff", "ixany", "crtscts", "echo"]);
+    for _ in 0..2 {
+        let server = folder.serve(&format!("--device {}", device.display()));
+        let set = stty(&["-a"]);
+        for off in ["cmspar", "ignpar", "ixoff", "ixany", "crtscts", "echo", "icanon", "opost"] {
+            assert!(
+                set.split_whitespace().any(|word| word.trim_end_matches(';') == format!("-{off}")),
+                "{off}: {set}"
+            );
+        }
+        assert_eq!(server.stop("TERM"), (0, String::new()));
+    }
+}
+
+/// Messages that nobody reads are dropped, and neither frames nor signals wait for them.
+#[test]
+fn a_standard_error_that_nobody_reads_holds_nothing_up() {
+    let folder = Folder::new();
+    let server = folder.serve("--verbose");
+    let mut client = server.client();
+    for _ in 0..1500 {
+        client.ask(&VERSION.0, &VERSION.1); // about 90 bytes each, and the pipe takes 65536
+    }
+    let (status, said) = server.stop("TERM");
+    assert_eq!(status, 0);
+    assert!((500..1000).contains(&said.lines().count()), "{}", said.lines().count());
+}
+
 #[test]
 fn a_device_has_one_server_by_whatever_name() {
     let folder = Folder::new();

@@ -14,14 +14,14 @@ fn a_link_names_the_line_and_goes_with_it() {
     let client = Client::open(&folder.path("line"));
     client.0.try_lock().unwrap(); // as some clients do
     answers(&mut Client::open(&folder.path("line")));
-    assert_eq!(server.stop("TERM"), (0, String::new()));
+    assert_eq!(server.stop("HUP"), (0, String::new()));
     assert_eq!(folder.names(), ["sonde.volume", "sonde.volume.lock"]);
 }
 
 #[test]
 fn a_link_that_was_left_is_made_anew() {
     let folder = Folder::new();
-    symlink("/dev/pts/999999", folder.path("line")).unwrap();
+    symlink("/dev/./pts/999999", folder.path("line")).unwrap();
     let server = folder.serve("--link line");
     assert_eq!(fs::read_link(folder.path("line")).unwrap(), server.path);
     drop(server); // killed
@@ -36,7 +36,9 @@ fn what_is_there_already_stays() {
     let server = folder.serve("--link line");
     folder.write("file", "mine");
     symlink("file", folder.path("other")).unwrap();
+    symlink(&server.path, folder.path("another's")).unwrap();
     for (name, why) in [
+        ("another's", "File exists"),
         ("line", "another server has it"),
         ("./line", "another server has it"),
         ("file", "File exists"),
@@ -46,7 +48,10 @@ fn what_is_there_already_stays() {
         assert_eq!(status, 1, "{name}");
         assert!(said.starts_with(&format!("serve: the link {name} can't be made: {why}")), "{said}");
     }
-    assert_eq!(folder.names(), ["file", "line", "other", "sonde.volume", "sonde.volume.lock"]);
+    assert_eq!(
+        folder.names(),
+        ["another's", "file", "line", "other", "sonde.volume", "sonde.volume.lock"]
+    );
     assert_eq!(folder.read("file"), b"mine");
     answers(&mut Client::open(&folder.path("line")));
     assert_eq!(server.stop("TERM").0, 0);

@@ -77,11 +77,16 @@ fn what_exists_is_not_begun_anew() {
     folder.write("sonde.volume", bytes(&updated(3)));
     folder.write("second", bytes(&updated(1)));
     symlink("nothing", folder.path("link")).unwrap();
-    for name in ["second", "link", "sonde.volume", "."] {
+    for (name, is_file) in [("second", true), ("link", false), ("sonde.volume", true), (".", false)] {
         let (status, said) = folder.refused(&format!("--new-volume {name}"));
         assert_eq!(status, 1, "{name}");
-        let message = format!("serve: --new-volume {name}: it exists, and nothing is overwritten. --volume {name} serves it\n");
-        assert_eq!(said, message);
+        let message = format!("serve: --new-volume {name}: it exists, and nothing is overwritten");
+        let hint = if is_file {
+            format!(". --volume {name} serves it")
+        } else {
+            String::new()
+        };
+        assert_eq!(said, format!("{message}{hint}\n"));
     }
     assert_eq!(folder.read("second"), bytes(&updated(1)));
     assert_eq!(folder.read("sonde.volume"), bytes(&updated(3)));
