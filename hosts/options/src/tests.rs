@@ -56,7 +56,7 @@ fn options_of_lines_and_volumes() {
 
 #[test]
 fn check_stands_alone() {
-    assert!(matches!(parsed("--check v"), Ok(Command::Check(path)) if path == PathBuf::from("v")));
+    assert!(matches!(parsed("--check v"), Ok(Command::Check(path)) if path.as_os_str() == "v"));
     for (words, message) in [
         ("--check", "--check wants a value"),
         ("--check v --verbose", "--check FILE stands alone"),

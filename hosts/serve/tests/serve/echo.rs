@@ -1,6 +1,6 @@
 //! Lines that hand back what they are given. The reply to an update is the update itself: served again, it would fill the journal.
 
-use crate::harness::{framed, Client, Folder, PAUSE};
+use crate::harness::{framed, Client, Folder, Server, PAUSE};
 use crate::worked::{bytes, calibrated, preparation, prepare, updated, START, UPDATE};
 use serve::sys::open_pty;
 use std::process::Command;
@@ -15,30 +15,44 @@ const SLOW: &str = "--speed 300 --parity none --silence 600";
 /// Longer than a reply and the silence, and longer than the silence before a reply.
 const SLOW_PAUSE: Duration = Duration::from_millis(1500);
 
-#[test]
-fn the_echo_of_a_device_is_dropped_and_told_once() {
+const HANDS_BACK: &str = "serve: the line hands back what is sent; it is dropped. --echo makes sure of it\n";
+
+fn on_pty(words: &str) -> (Folder, Server, Client) {
+    let folder = Folder::new();
+    let server = folder.serve(words);
+    let client = server.client();
+    (folder, server, client)
+}
+
+/// The client has the other end of the wire.
+fn on_device(words: &str) -> (Folder, Server, Client) {
     let folder = Folder::new();
     let (wire, device) = open_pty().unwrap();
-    let server = folder.serve(&format!("--device {} {SLOW} {START}", device.display()));
-    let mut client = Client(wire);
+    let server = folder.serve(&format!("--device {} {words}", device.display()));
+    (folder, server, Client(wire))
+}
+
+fn prepare_with_echo(client: &mut Client) {
     for (body, expected) in preparation() {
         client.ask_with_echo(&body, &expected);
     }
+}
+
+#[test]
+fn the_echo_of_a_device_is_dropped_and_told_once() {
+    let (folder, server, mut client) = on_device(&format!("{SLOW} {START}"));
+    prepare_with_echo(&mut client);
     for count in 1..=2 {
         client.ask_with_echo(&UPDATE, &UPDATE); // the second time it is a client's, and served
         assert_eq!(client.receive(1, SLOW_PAUSE), []);
         assert_eq!(folder.read("sonde.volume"), bytes(&updated(count)));
     }
-    let message = "serve: the line hands back what is sent; it is dropped. --echo makes sure of it\n";
-    assert_eq!(server.stop("TERM"), (0, message.to_string()));
+    assert_eq!(server.stop("TERM"), (0, HANDS_BACK.to_string()));
 }
 
 #[test]
 fn without_an_echo_a_request_may_be_repeated_after_the_silence() {
-    let folder = Folder::new();
-    let (wire, device) = open_pty().unwrap();
-    let server = folder.serve(&format!("--device {} {SLOW} {START}", device.display()));
-    let mut client = Client(wire);
+    let (folder, server, mut client) = on_device(&format!("{SLOW} {START}"));
     prepare(&mut client); // each differs from the reply before it, so none is taken for its echo
     for count in 1..=2 {
         client.ask(&UPDATE, &UPDATE);
@@ -50,9 +64,7 @@ fn without_an_echo_a_request_may_be_repeated_after_the_silence() {
 
 #[test]
 fn on_a_pseudo_terminal_a_request_may_be_repeated_at_once() {
-    let folder = Folder::new();
-    let server = folder.serve(START);
-    let mut client = server.client();
+    let (folder, _server, mut client) = on_pty(START);
     prepare(&mut client);
     client.ask(&UPDATE, &UPDATE);
     client.ask(&UPDATE, &UPDATE);
@@ -61,12 +73,8 @@ fn on_a_pseudo_terminal_a_request_may_be_repeated_at_once() {
 
 #[test]
 fn echo_waits_for_the_bytes_that_were_sent_and_drops_no_others() {
-    let folder = Folder::new();
-    let server = folder.serve(&format!("--echo {START}"));
-    let mut client = server.client();
-    for (body, expected) in preparation() {
-        client.ask_with_echo(&body, &expected);
-    }
+    let (folder, server, mut client) = on_pty(&format!("--echo {START}"));
+    prepare_with_echo(&mut client);
     client.ask(&UPDATE, &UPDATE);
     sleep(PAUSE); // far longer than the silence: an adapter may hold it back
     client.send(&framed(&UPDATE)[..3]);
@@ -88,12 +96,8 @@ fn echo_waits_for_the_bytes_that_were_sent_and_drops_no_others() {
 /// A client that asked again before the reply came is heard, and the echo behind its request is still dropped.
 #[test]
 fn echo_is_found_behind_a_request() {
-    let folder = Folder::new();
-    let server = folder.serve(&format!("--echo {START}"));
-    let mut client = server.client();
-    for (body, expected) in preparation() {
-        client.ask_with_echo(&body, &expected);
-    }
+    let (folder, server, mut client) = on_pty(&format!("--echo {START}"));
+    prepare_with_echo(&mut client);
     client.ask(&UPDATE, &UPDATE);
     client.send(&[framed(&VERSION.0), framed(&UPDATE)].concat());
     assert_eq!(client.receive(7, Duration::from_secs(10)), framed(&VERSION.1));
@@ -105,9 +109,7 @@ fn echo_is_found_behind_a_request() {
 
 #[test]
 fn an_echo_that_was_cut_short_spoils_no_request() {
-    let folder = Folder::new();
-    let server = folder.serve("--echo");
-    let mut client = server.client();
+    let (_folder, server, mut client) = on_pty("--echo");
     for length in [1, 4, 6] {
         client.ask(&VERSION.0, &VERSION.1);
         client.send(&framed(&VERSION.1)[..length]);
@@ -120,9 +122,7 @@ fn an_echo_that_was_cut_short_spoils_no_request() {
 
 #[test]
 fn an_echo_that_was_spoilt_is_one_bad_frame() {
-    let folder = Folder::new();
-    let server = folder.serve("--echo");
-    let mut client = server.client();
+    let (_folder, server, mut client) = on_pty("--echo");
     let mut spoilt = framed(&VERSION.1);
     spoilt[3] ^= 1;
     for echo in [&spoilt[..], &spoilt[1..]] {
@@ -147,10 +147,7 @@ fn late(client: &mut Client, body: &[u8], expected: &[u8]) {
 
 #[test]
 fn a_late_echo_of_a_read_is_known_by_its_shape() {
-    let folder = Folder::new();
-    let (wire, device) = open_pty().unwrap();
-    let server = folder.serve(&format!("--device {} {START}", device.display()));
-    let mut client = Client(wire);
+    let (folder, server, mut client) = on_device(START);
     late(&mut client, &VERSION.0, &VERSION.1);
     client.hears_nothing();
     for (body, expected) in preparation() {
@@ -159,16 +156,12 @@ fn a_late_echo_of_a_read_is_known_by_its_shape() {
     late(&mut client, &UPDATE, &UPDATE);
     client.hears_nothing();
     assert_eq!(folder.read("sonde.volume"), bytes(&calibrated()));
-    let message = "serve: the line hands back what is sent; it is dropped. --echo makes sure of it\n";
-    assert_eq!(server.stop("TERM"), (0, message.to_string()));
+    assert_eq!(server.stop("TERM"), (0, HANDS_BACK.to_string()));
 }
 
 #[test]
 fn a_loop_of_late_echoes_is_cut() {
-    let folder = Folder::new();
-    let (wire, device) = open_pty().unwrap();
-    let server = folder.serve(&format!("--device {} {START}", device.display()));
-    let mut client = Client(wire);
+    let (folder, server, mut client) = on_device(START);
     let on = [1, 6, 0, 105, 0xE0, 0x00];
     late(&mut client, &on, &on);
     let mut loops = 0;
@@ -188,16 +181,13 @@ fn a_loop_of_late_echoes_is_cut() {
     let (_, said) = server.stop("TERM");
     let lines: Vec<&str> = said.lines().collect();
     assert!(lines[0].contains("left out once") && lines[0].contains("--echo"), "{said}");
-    assert!(lines[1].contains("hands back what is sent"), "{said}");
+    assert_eq!(lines[1], HANDS_BACK.trim_end());
     assert_eq!(lines.len(), 2);
 }
 
 #[test]
 fn a_client_that_repeats_itself_has_one_frame_left_out() {
-    let folder = Folder::new();
-    let (wire, device) = open_pty().unwrap();
-    let server = folder.serve(&format!("--device {} --silence 1", device.display()));
-    let mut client = Client(wire);
+    let (_folder, server, mut client) = on_device("--silence 1");
     let on = framed(&[1, 6, 0, 105, 0xE0, 0x00]);
     let mut unanswered = 0;
     for _ in 0..40 {
@@ -214,9 +204,7 @@ fn a_client_that_repeats_itself_has_one_frame_left_out() {
 
 #[test]
 fn echo_on_a_line_without_one_is_told_and_served() {
-    let folder = Folder::new();
-    let server = folder.serve("--echo");
-    let mut client = server.client();
+    let (_folder, server, mut client) = on_pty("--echo");
     for _ in 0..2 {
         client.ask(&VERSION.0, &VERSION.1);
         sleep(serve::line::PATIENCE + PAUSE);
@@ -227,9 +215,7 @@ fn echo_on_a_line_without_one_is_told_and_served() {
 
 #[test]
 fn a_request_that_is_no_echo_is_told_and_served() {
-    let folder = Folder::new();
-    let server = folder.serve("--echo");
-    let mut client = server.client();
+    let (_folder, server, mut client) = on_pty("--echo");
     client.ask(&VERSION.0, &VERSION.1);
     client.ask_with_echo(&JOURNAL, &[1, 3, 4, 3, 0xE8, 0, 0]);
     let (_, said) = server.stop("TERM");
@@ -241,9 +227,7 @@ fn a_request_that_is_no_echo_is_told_and_served() {
 
 #[test]
 fn the_echo_of_a_pseudo_terminal_is_switched_off() {
-    let folder = Folder::new();
-    let server = folder.serve(START);
-    let mut client = server.client();
+    let (folder, server, mut client) = on_pty(START);
     prepare(&mut client);
     let mut stty = Command::new("stty");
     stty.arg("-F").arg(&server.path).args(["raw", "echo", "-echoctl"]);
