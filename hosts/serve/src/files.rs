@@ -101,6 +101,14 @@ impl From<&Metadata> for Identity {
     }
 }
 
+/// Locks a file or a device for as long as it is open here, by whatever name.
+pub fn lock(file: &File) -> Result<(), String> {
+    file.try_lock().map_err(|e| match e {
+        TryLockError::WouldBlock => "another server has it".to_string(),
+        TryLockError::Error(e) => format!("it can't be locked: {e}"),
+    })
+}
+
 /// A lock file, locked while this lives.
 pub struct Lock {
     path: PathBuf,
@@ -112,11 +120,7 @@ impl Lock {
     pub fn take(path: &Path) -> Result<Lock, String> {
         loop {
             let (file, made) = open_lock(path).map_err(|e| format!("{} can't be opened: {e}", path.display()))?;
-            match file.try_lock() {
-                Ok(()) => {}
-                Err(TryLockError::WouldBlock) => return Err("another server has it".to_string()),
-                Err(TryLockError::Error(e)) => return Err(format!("{} can't be locked: {e}", path.display())),
-            }
+            lock(&file)?;
             let path = path.to_path_buf();
             let lock = Lock { path, file, made };
             if lock.is_held() {

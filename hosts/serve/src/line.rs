@@ -1,12 +1,13 @@
 //! The line: a serial device, or a pseudo-terminal that clients open as one.
 
 use crate::echo::{Echo, Heard, Suspicion, Verdict, HELD_BACK};
+use crate::files::lock;
 use crate::framing;
 use crate::link::Link;
 use crate::say;
 use crate::sys::{self, Event, Wish};
 use serve_options::{Options, Parity};
-use std::fs::{File, OpenOptions, TryLockError};
+use std::fs::{File, OpenOptions};
 use std::io::{self, ErrorKind, Read, Write};
 use std::os::unix::fs::OpenOptionsExt;
 use std::path::{Path, PathBuf};
@@ -207,7 +208,8 @@ impl Line {
         while !echo.is_over() {
             match self.wait(stop, Some(until.saturating_duration_since(Instant::now())))? {
                 Event::Ready => echo.push(self.read(&mut buffer)?, last.elapsed() > self.silence),
-                Event::Stop | Event::Timeout => break,
+                Event::Timeout => break,
+                Event::Stop => return Ok(Vec::new()), // nothing is known of the echo, and no more is served
             }
             last = Instant::now();
             until = match sure {
@@ -274,14 +276,6 @@ impl Line {
 /// A pseudo-terminal has no parity, and the C library may refuse to set one.
 fn parity(line: &File, wanted: Parity) -> io::Result<Parity> {
     Ok(if sys::is_pty(line)? { Parity::None } else { wanted })
-}
-
-/// Keeps a second server off, by whatever name it opens the line.
-fn lock(line: &File) -> Result<(), String> {
-    line.try_lock().map_err(|e| match e {
-        TryLockError::WouldBlock => "another server has it".to_string(),
-        TryLockError::Error(e) => format!("it can't be locked: {e}"),
-    })
 }
 
 fn open_line(path: &Path) -> io::Result<File> {

@@ -62,7 +62,7 @@ fn a_file_with_two_names_is_refused() {
     assert_eq!(folder.names(), ["other", "sonde.volume"]);
 }
 
-/// A name of 250 bytes leaves no room for the ending of a new file.
+/// A name of 247 bytes leaves room for the lock file's ending, and none for a new file's.
 #[test]
 fn a_file_that_could_not_be_replaced_is_refused_at_the_start() {
     let folder = Folder::new();
@@ -88,11 +88,7 @@ int renameat2(int from, const char *old, int to, const char *new, unsigned flags
 #[test]
 fn a_program_that_was_quicker_loses_nothing() {
     let folder = Folder::new();
-    folder.write("race.c", RACE);
-    let race = folder.path("race.so");
-    let mut cc = Command::new("cc");
-    cc.args(["-shared", "-fPIC", "-o"]).args([&race, &folder.path("race.c")]);
-    assert!(cc.status().unwrap().success());
+    let race = folder.stand_in(RACE);
 
     folder.write("sonde.volume", bytes(&begun()));
     let mut server = folder.serve_with("LD_PRELOAD", &race, "--clock 1767178241");
@@ -115,7 +111,7 @@ fn a_program_that_was_quicker_loses_nothing() {
     assert_eq!(status, 1);
     assert!(said.contains("it can't be begun: File exists"), "{said}");
     assert_eq!(folder.read("sonde.volume"), b"another's");
-    assert_eq!(folder.names(), ["race.c", "race.so", "sonde.volume", "sonde.volume.lock"]);
+    assert_eq!(folder.names(), ["sonde.volume", "sonde.volume.lock", "stand_in.c", "stand_in.so"]);
 }
 
 #[test]

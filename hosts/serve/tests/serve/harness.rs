@@ -39,6 +39,16 @@ impl Folder {
         fs::read(self.path(name)).unwrap()
     }
 
+    /// A library that stands in for calls of the C library, to be loaded before it: LD_PRELOAD.
+    pub fn stand_in(&self, source: &str) -> PathBuf {
+        let (file, library) = (self.path("stand_in.c"), self.path("stand_in.so"));
+        fs::write(&file, source).unwrap();
+        let mut cc = Command::new("cc");
+        cc.args(["-shared", "-fPIC", "-o"]).args([&library, &file]);
+        assert!(cc.status().unwrap().success());
+        library
+    }
+
     /// The names of the files, in order.
     pub fn names(&self) -> Vec<String> {
         let mut names: Vec<String> = fs::read_dir(&self.0)

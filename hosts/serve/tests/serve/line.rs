@@ -208,13 +208,7 @@ int ioctl(int fd, unsigned long request, ...) {
 #[test]
 fn the_kernel_is_asked_to_switch_an_rs485_driver() {
     let folder = Folder::new();
-    folder.write("driver.c", DRIVER);
-    let driver = folder.path("driver.so");
-    let built = std::process::Command::new("cc")
-        .args(["-shared", "-fPIC", "-o"])
-        .args([&driver, &folder.path("driver.c")])
-        .status();
-    assert!(built.unwrap().success());
+    let driver = folder.stand_in(DRIVER);
     for (level, asked) in [("high", "on send 1, after send 0"), ("low", "on send 0, after send 1")] {
         let (_wire, device) = open_pty().unwrap();
         let words = format!("--device {} --parity none --rs485 {level}", device.display());
