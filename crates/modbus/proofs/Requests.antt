@@ -8,8 +8,7 @@ use native.Mathlib.Omega.{arith}
 use borrow.Author.Tests.{eqb-true, ltb-false}
 use lib.Dec.{ltb, eqb, lit<, lit≤}
 use lib.ListN.{length, getD}
-use Rattle.words.specs.Bytes.{wordAt}
-use Rattle.words.proofs.Bytes.{Bytes}
+use Rattle.words.specs.Bytes.{wordAt, Bytes}
 use Rattle.modbus.specs.Request.{readOf, writeOneOf, word2Of, writeManyOf, writeMaskOf, requestOf}
 use Rattle.modbus.specs.declared.Value.{Value}
 use Rattle.modbus.specs.declared.Value.the-variants.{Words, Mask}

@@ -5,11 +5,7 @@ use Prim.Native.Nat.{ℕ, zero, suc, _*_, _/_, _%_, _<_}
 use native.Mathlib.Omega.{arith}
 use lib.Dec.{lit<}
 use lib.ListN.{length, getD, take}
-use Rattle.words.specs.Bytes.{bytesOf}
-
--- a list of bytes, as a slice of u8 is
-pub record Bytes (s : List ℕ) : Type 0 where
-  pub below : (i : ℕ) → getD s i 0 < 256
+use Rattle.words.specs.Bytes.{Bytes, bytesOf}
 
 -- the bytes of two lists of words, one behind the other
 pub bytes-append : (xs ys : List ℕ) → bytesOf (xs ++ ys) ≡ bytesOf xs ++ bytesOf ys
