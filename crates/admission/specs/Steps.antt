@@ -4,16 +4,17 @@ use mathlib.Core.Bool.{Bool, cond}
 use mathlib.Core.List.{List}
 use Prim.Native.Nat.{ℕ, _/_}
 use lib.Dec.{ltb}
-use Rattle.rtu.specs.Frame.{bodyOf}
+use Rattle.framing.specs.Framing.{roomIn}
+use Rattle.framing.specs.Steps.{carriedBy}
 use Rattle.modbus.specs.Request.{headerOf}
 use Rattle.plans.specs.declared.Plan.{Plan}
 use Rattle.plans.specs.declared.Plan.the-variants.{Bad, Foreign, BroadcastRead, Refused, Reading, Writing}
 use Rattle.service.specs.Frame.{planFor}
 use Rattle.admission.specs.declared.Judged.{Judged}
 
--- "3: reply buffer under 256 bytes", then number 4; 0 for none
-unfoldable pub numberBy : ℕ → Bool → ℕ
-numberBy room agreed = cond (ltb room 256) 3 (cond agreed 0 4)
+-- number 3, by the room that the framing's replies need, then number 4; 0 for none
+unfoldable pub numberBy : Bool → ℕ → Bool → ℕ
+numberBy ascii room agreed = cond (ltb room (roomIn ascii)) 3 (cond agreed 0 4)
 
 -- the owner that a plan names, 0 for the device or for none
 abbrev pub ownerOf : Plan → ℕ
@@ -24,6 +25,6 @@ ownerOf (Refused code) = 0
 ownerOf (Reading start count) = start / 100
 ownerOf (Writing owner f v) = owner
 
--- a frame judged: what it asks for, with its header
+-- the body of a frame judged: what it asks for, with its header
 abbrev pub judgedOf : ℕ → List ℕ → Judged
-judgedOf own frame = record { header = headerOf (bodyOf frame); plan = planFor own frame }
+judgedOf own body = record { header = headerOf body; plan = planFor own (carriedBy body) }

@@ -12,11 +12,11 @@ pub struct Judged {
     pub plan: Plan,
 }
 
-// The number that refuses a frame with so many bytes of reply buffer, by whether the sonde and its volume agree; 0 is none.
-pub fn number_of(room: usize, agreed: bool) -> u8
-    ensures { λ r. ⌜ r ≡ numberBy room agreed ⌝ }
+// The number that refuses a frame of this framing with so many bytes of reply buffer, by whether the sonde and its volume agree; 0 is none.
+pub fn number_of(ascii: bool, room: usize, agreed: bool) -> u8
+    ensures { λ r. ⌜ r ≡ numberBy ascii room agreed ⌝ }
 {
-    if room < 256 {
+    if room < framing::room(ascii) {
         return numbers::SHORT_REPLY;
     }
     if agreed {
@@ -52,13 +52,12 @@ pub fn sensor_index(judged: Judged) -> usize
     }
 }
 
-// What a frame asks of the sonde with this address.
-pub fn judge(own: u8, frame: &[u8]) -> Judged
-    ensures { λ r. ⌜ r ≡ judgedOf own (now (frame .entry)) ⌝ }
+// What the body that a frame carries asks of the sonde with this address; no bytes are a bad frame's.
+pub fn judge(own: u8, body: &[u8]) -> Judged
+    ensures { λ r. ⌜ r ≡ judgedOf own (now (body .entry)) ⌝ }
 {
-    let body = rtu::frame::body(frame);
     let header = modbus::header_of(body);
-    if !rtu::frame::is_good(frame) {
+    if body.len() == 0 {
         return Judged {
             header,
             plan: Plan::Bad,

@@ -5,7 +5,7 @@ use mathlib.Core.List.{List}
 use Prim.Native.Nat.{ℕ}
 use lib.Dec.{ltb}
 use lib.ListN.{length}
-use Rattle.rtu.specs.Frame.{bodyOf}
+use Rattle.framing.specs.Framing.{Carried, carriedIn, bodyOf, roomIn}
 use Rattle.modbus.specs.Request.{headerOf}
 use Rattle.modbus.specs.declared.Header.{Header}
 use Rattle.journal.specs.Stores.{spareIn}
@@ -40,21 +40,24 @@ module _ {x : State} {b : Model} (h : Invariant x b) where
   unfolding spareIn
   context-same a = rw (holds-used (x .volume) (b .journal) (h .holds))
 
-  -- any frame, with any reply buffer
+  -- any frame of either framing, with any reply buffer
   pub frame-keeps : (frame reply : List ℕ) (a : Arrival) → Keeps x b (Frame frame reply a)
   unfolding numberOf after modelAfter noted frameOf answerOf left modelFrame
-  frame-keeps frame reply a = room (ltb (length reply) 256) refl
+  frame-keeps frame reply a = room (ltb (length reply) (roomIn (a .ascii))) refl
     where
+      c : Carried
+      c = carriedIn (a .ascii) frame
+
       p : Plan
-      p = planFor (x .sonde .address) frame
+      p = planFor (x .sonde .address) c
 
-      q : planFor (b .address) frame ≡ p
-      q = rw (h .matches .address-is)
+      q : (y : Carried) → planFor (b .address) y ≡ planFor (x .sonde .address) y
+      q y = rw (h .matches .address-is)
 
-      room : (l : Bool) → ltb (length reply) 256 ≡ l → Keeps x b (Frame frame reply a)
+      room : (l : Bool) → ltb (length reply) (roomIn (a .ascii)) ≡ l → Keeps x b (Frame frame reply a)
       room true l = record { never-four = rw (numberOf, l); invariant = rw l h; entries = rw l }
       room false l =
-          let k = plan-keeps a (headerOf (bodyOf frame)) (bodyOf frame) p (frame-facts (x .sonde .address) frame) in
+          let k = plan-keeps a (headerOf (bodyOf c)) (bodyOf c) p (frame-facts (x .sonde .address) c) in
           record {
             never-four = rw (numberOf, l, agrees-with h);
             invariant = rw (l, agrees-with h, q) (k .invariant);

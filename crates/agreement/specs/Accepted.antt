@@ -6,6 +6,7 @@ use mathlib.Core.Bool.{_&&_, cond}
 use mathlib.Core.List.{List, [], _∷_, _++_}
 use lib.Dec.{eqb, ltb}
 use lib.ListN.{length}
+use Rattle.framing.specs.Framing.{carriedIn, roomIn}
 use Rattle.entries.specs.declared.Entry.{Entry}
 use Rattle.journal.specs.Words.{capacityOf}
 use Rattle.registers.specs.Registers.{sensorRegister}
@@ -37,10 +38,12 @@ abbrev pub contextAfter : List Entry → State → Arrival → Context
 contextAfter es x a = context (a .clock) (ltb (length es) (capacityOf (length (x .volume))))
 
 -- the accepted calibrations since the last begin, one call later. Number 3 refuses a frame by its reply buffer's length; number 4 isn't asked
--- for, since no call gives it. A begin that isn't refused starts anew.
+-- for, since no call gives it. Document 02, wish 1: "An ASCII update is an accepted calibration like any other". A begin that isn't refused starts
+-- anew.
 unfoldable pub noted : List Entry → State → Call → List Entry
 noted es x (Frame frame reply a) =
-    cond (ltb (length reply) 256) es (es ++ acceptedIn (x .sonde) (contextAfter es x a) (planFor (x .sonde .address) frame))
+    cond (ltb (length reply) (roomIn (a .ascii))) es
+    (es ++ acceptedIn (x .sonde) (contextAfter es x a) (planFor (x .sonde .address) (carriedIn (a .ascii) frame)))
 noted es x (Measure s present raw1 raw2) = es
 noted es x (PowerUp address) = es
 noted es x (Begin w) = cond (eqb (beginOf (x .sonde) w .number) 0) [] es

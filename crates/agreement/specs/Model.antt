@@ -5,6 +5,7 @@ use mathlib.Core.List.{List, [], _∷_, _++_}
 use Prim.Native.Nat.{ℕ, _-_}
 use lib.Dec.{ltb}
 use lib.ListN.{length, getD, set}
+use Rattle.framing.specs.Framing.{carriedIn, roomIn}
 use Rattle.modbus.specs.declared.Value.{Value}
 use Rattle.entries.specs.declared.Entry.{Entry}
 use Rattle.fields.specs.declared.Field.{Field}
@@ -97,6 +98,6 @@ modelPlanned b a (Refused code) = b
 modelPlanned b a (Reading start count) = b
 modelPlanned b a (Writing s f v) = kept b s (writeIn b a s f v)
 
--- of the reply buffer the length alone: number 3 refuses. "Number 4 isn't tried".
+-- of the reply buffer the length alone: number 3 refuses, by the framing. "Number 4 isn't tried". Frames of either framing are judged alike
 unfoldable pub modelFrame : Model → List ℕ → ℕ → Arrival → Model
-modelFrame b frame room a = cond (ltb room 256) b (modelPlanned b a (planFor (b .address) frame))
+modelFrame b frame room a = cond (ltb room (roomIn (a .ascii))) b (modelPlanned b a (planFor (b .address) (carriedIn (a .ascii) frame)))

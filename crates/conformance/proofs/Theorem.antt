@@ -1,9 +1,12 @@
--- All of document 01's starred cases hold, by computation on the definitions. Assumes nothing.
+-- All of document 01's starred cases hold, and those of document 02's wishes, by computation on the definitions. Assumes nothing.
 use mathlib.Core.Path.{refl}
 use lib.Ieee.{ofBits, toBits, sub, mul, div, le}
 use Rattle.words.specs.Mask.{maskedOf}
 use Rattle.rtu.specs.Crc.{crcBit, crcBits, crcByte, crcFrom, crcOf}
-use Rattle.rtu.specs.Frame.{checksumOf, framed, bodyOf, isGood, overlay}
+use Rattle.words.specs.Overlay.{overlay}
+use Rattle.rtu.specs.Frame.{checksumOf, framed, bodyOf, isGood}
+use Rattle.ascii.specs.Ascii.{sumOf, lrcOf, hexDigit, valueOf, digits, hexOf, spelt, asciiFramed, charsOf, decodedBytes, asciiBody, enclosed, checked, asciiGood}
+use Rattle.framing.specs.Framing.{carriedIn, framedIn, roomIn}
 use Rattle.modbus.specs.Request.{writeOneOf, writeMaskOf, requestOf}
 use Rattle.replies.specs.Reply.{writtenBody, markedOf, exceptionBody, replyOf}
 use Rattle.floats.specs.Floats.{near, nearMinus, finite, floatOf, highWord, lowWord, sameBits, isPlusZero}
@@ -23,14 +26,15 @@ use Rattle.registers.specs.Registers.{modeOf, headRegister, sensorRegister}
 use Rattle.commands.specs.Commands.{updated, commanded}
 use Rattle.writes.specs.Writes.{fieldWritten, writeOf}
 use Rattle.plans.specs.Plans.{targetOf, planOf}
-use Rattle.state.specs.Sonde.{freshSonde, sensorAt, setupAt, withSensor, withSetup, countedBy, addressValid, validSonde}
+use Rattle.state.specs.Sonde.{freshCounters, incremented, freshSonde, sensorAt, setupAt, withSensor, withSetup, countedBy, addressValid, validSonde}
 use Rattle.service.specs.Agrees.{openings, sameCalibrations, journalAgrees, agrees}
 use Rattle.service.specs.Calls.{beginOf}
-use Rattle.service.specs.Frame.{planFor, sent, writeBody, writtenBy, carried, answerOf, left, frameOf}
-use Rattle.conformance.specs.Cases.{Cases, worked, told, begunWith, beginTold, asked, next, frameTold, inMode}
+use Rattle.service.specs.Frame.{sent, writeBody, writtenBy, carriedOut, answerOf, left, frameOf}
+use Rattle.conformance.specs.Cases.{Cases, worked, told, begunWith, beginTold, asked, next, nextAscii, frameTold, inMode}
 
 pub cases : Cases
 unfolding crcBit crcBits crcByte crcFrom crcOf checksumOf framed bodyOf isGood overlay
+    sumOf lrcOf hexDigit valueOf digits hexOf spelt asciiFramed charsOf decodedBytes asciiBody enclosed checked asciiGood carriedIn framedIn roomIn
     writeOneOf writeMaskOf requestOf maskedOf writtenBody markedOf exceptionBody
     ofBits toBits sub mul div le near nearMinus finite floatOf highWord lowWord sameBits isPlusZero
     allFinite sameCoefficients sameCalibration defaultsOf inLimits methodOf candidateOf verdictOf judgedOf
@@ -39,9 +43,9 @@ unfolding crcBit crcBits crcByte crcFrom crcOf checksumOf framed bodyOf isGood o
     idOf defaultUnits unitsAllowed levelAllowed ownerBit owns holds exactly fieldAt wholeField spanOf
     newProcedure freshParameter freshParameters freshSetup freshSensor unitsValid levelValid validParameter validParameters validProcedure validSetup validSensor restarted calibratedAt sensorWithSetup
     modeOf headRegister sensorRegister updated commanded fieldWritten writeOf targetOf planOf
-    freshSonde sensorAt setupAt withSensor withSetup countedBy addressValid validSonde
-    openings sameCalibrations journalAgrees agrees beginOf planFor sent writeBody writtenBy carried answerOf replyOf left frameOf
-    worked told begunWith beginTold asked next frameTold inMode
+    freshCounters incremented freshSonde sensorAt setupAt withSensor withSetup countedBy addressValid validSonde
+    openings sameCalibrations journalAgrees agrees beginOf sent writeBody writtenBy carriedOut answerOf replyOf left frameOf
+    worked told begunWith beginTold asked next nextAscii frameTold inMode
 cases =
     record {
       crc-of-digits = refl;
@@ -58,4 +62,9 @@ cases =
       too-short = refl;
       last-entry = refl;
       journal-full = refl;
+      ascii-updates = refl;
+      ascii-full = refl;
+      full-after-ascii = refl;
+      small-digits = refl;
+      small-counted = refl;
     }

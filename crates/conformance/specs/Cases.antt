@@ -1,6 +1,7 @@
--- Document 01's starred cases, "Entries to test by", in its order, as statements about the definitions that the contracts cite. Assumes
--- nothing.
+-- Document 01's starred cases, "Entries to test by", in its order, then cases of document 02's wishes, as statements about the definitions that the
+-- contracts cite. Assumes nothing.
 use mathlib.Core.Path.{_≡_}
+use mathlib.Core.Bool.{true, false}
 use mathlib.Core.List.{List, [], _∷_}
 use Prim.Native.Nat.{ℕ}
 use lib.ListN.{getD, take, replicate}
@@ -50,10 +51,14 @@ beginTold b = b .number ∷ getD (b .volume) 1 0 ∷ []
 
 -- a frame at clock 7 for a sonde and its volume, and one more for what it leaves
 unfoldable pub asked : Sonde → List ℕ → List ℕ → Outcome
-asked d volume frame = frameOf d frame (replicate 256 0) volume (arrival 7)
+asked d volume frame = frameOf d frame (replicate 256 0) volume (arrival 7 false)
 
 unfoldable pub next : Outcome → List ℕ → Outcome
 next o frame = asked (o .sonde) (o .volume) frame
+
+-- the same in ASCII
+unfoldable pub nextAscii : Outcome → List ℕ → Outcome
+nextAscii o frame = frameOf (o .sonde) frame (replicate 513 0) (o .volume) (arrival 7 true)
 
 -- what a frame tells: its number, the entries in use, then the reply
 unfoldable pub frameTold : Outcome → List ℕ
@@ -68,6 +73,16 @@ update = 0x01 ∷ 0x06 ∷ 0x00 ∷ 0x69 ∷ 0xE0 ∷ 0x01 ∷ 0xD1 ∷ 0xD6 ∷
 
 abbrev pub masked : List ℕ
 masked = 0x01 ∷ 0x16 ∷ 0x00 ∷ 0x69 ∷ 0x00 ∷ 0x00 ∷ 0xE0 ∷ 0x01 ∷ 0x22 ∷ 0x0F ∷ []
+
+-- the update in ASCII, ":01060069E001AF" with CR LF, and with its last digit as a small letter; the exception 0xC0 to it, ":0186C0B9"
+abbrev pub updateAscii : List ℕ
+updateAscii = 0x3A ∷ 0x30 ∷ 0x31 ∷ 0x30 ∷ 0x36 ∷ 0x30 ∷ 0x30 ∷ 0x36 ∷ 0x39 ∷ 0x45 ∷ 0x30 ∷ 0x30 ∷ 0x31 ∷ 0x41 ∷ 0x46 ∷ 0x0D ∷ 0x0A ∷ []
+
+abbrev pub updateSmall : List ℕ
+updateSmall = 0x3A ∷ 0x30 ∷ 0x31 ∷ 0x30 ∷ 0x36 ∷ 0x30 ∷ 0x30 ∷ 0x36 ∷ 0x39 ∷ 0x45 ∷ 0x30 ∷ 0x30 ∷ 0x31 ∷ 0x41 ∷ 0x66 ∷ 0x0D ∷ 0x0A ∷ []
+
+abbrev pub fullAscii : List ℕ
+fullAscii = 0x3A ∷ 0x30 ∷ 0x31 ∷ 0x38 ∷ 0x36 ∷ 0x43 ∷ 0x30 ∷ 0x42 ∷ 0x39 ∷ 0x0D ∷ 0x0A ∷ []
 
 -- the sonde in mode, with one entry spare
 unfoldable pub inMode : Outcome
@@ -98,3 +113,10 @@ pub record Cases : Type 0 where
   -- "Update in mode with one entry spare, accepted; the next, 0xC0"
   pub last-entry : frameTold (next inMode update) ≡ 0 ∷ 1 ∷ update
   pub journal-full : frameTold (next (next inMode update) update) ≡ 0 ∷ 1 ∷ 0x01 ∷ 0x86 ∷ 0xC0 ∷ 0x42 ∷ 0x30 ∷ []
+  -- document 02, wish 1: "An ASCII update is an accepted calibration like any other", answered "in the same framing"; then the journal is full for both
+  pub ascii-updates : frameTold (nextAscii inMode updateAscii) ≡ 0 ∷ 1 ∷ updateAscii
+  pub ascii-full : frameTold (nextAscii (next inMode update) updateAscii) ≡ 0 ∷ 1 ∷ fullAscii
+  pub full-after-ascii : frameTold (next (nextAscii inMode updateAscii) update) ≡ 0 ∷ 1 ∷ 0x01 ∷ 0x86 ∷ 0xC0 ∷ 0x42 ∷ 0x30 ∷ []
+  -- "capital hexadecimal digits": small ones are bad, without reply
+  pub small-digits : frameTold (nextAscii inMode updateSmall) ≡ 0 ∷ 0 ∷ []
+  pub small-counted : nextAscii inMode updateSmall .sonde .counters .bad ≡ 1

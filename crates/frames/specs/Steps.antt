@@ -1,10 +1,11 @@
 -- What comes of a frame, from the parts of the sonde that the code hands on: its address, its counters, and the sensor that the plan names. No
 -- reader has to believe these definitions: `steps-left` (frames/proofs/Steps) says that they leave what the definition of the frame call does.
 -- Assumes nothing.
+use mathlib.Core.Bool.{Bool}
 use mathlib.Core.List.{List, []}
-use Prim.Native.Nat.{ℕ, _≤_}
+use Prim.Native.Nat.{ℕ}
 use lib.ListN.{length}
-use Rattle.rtu.specs.Frame.{bodyOf}
+use Rattle.framing.specs.Framing.{Carried, bodyOf}
 use Rattle.modbus.specs.Request.{headerOf}
 use Rattle.modbus.specs.declared.Header.{Header}
 use Rattle.sensors.specs.declared.Sensor.{Sensor}
@@ -32,22 +33,13 @@ stepOf own c s h body w a (Refused code) = step Exception (refusalBody h code) N
 stepOf own c s h body w a (Reading start count) = step Good (ownedBody own c s w a start count) Nothing w
 stepOf own c s h body w a (Writing owner f v) = writeStep h body w s (writtenBy owner s f v (contextOf w a))
 
--- the body of a write is short enough to be sent again
-abbrev pub Bounded : List ℕ → Plan → Type 0
-Bounded body Bad = Unit {0}
-Bounded body Foreign = Unit {0}
-Bounded body BroadcastRead = Unit {0}
-Bounded body (Refused code) = Unit {0}
-Bounded body (Reading start count) = Unit {0}
-Bounded body (Writing owner f v) = length body ≤ 254
-
--- of a whole frame
-unfoldable pub stepFor : ℕ → Counters → Sensor → List ℕ → List ℕ → Arrival → Step
-stepFor own c s frame w a = stepOf own c s (headerOf (bodyOf frame)) (bodyOf frame) w a (planFor own frame)
+-- of what a frame carries
+unfoldable pub stepFor : ℕ → Counters → Sensor → Carried → List ℕ → Arrival → Step
+stepFor own c s x w a = stepOf own c s (headerOf (bodyOf x)) (bodyOf x) w a (planFor own x)
 
 -- what the code hands on of it; the rest is in the lent slices
-abbrev pub servedOf : Step → Served
-servedOf x = record { event = x .event; length = length (replyOf (x .body)); change = x .change }
+abbrev pub servedOf : Bool → Step → Served
+servedOf ascii x = record { event = x .event; length = length (replyOf ascii (x .body)); change = x .change }
 
 -- the sonde with a change of the sensor that was named
 abbrev pub changed : Sonde → ℕ → Change → Sonde

@@ -4,12 +4,15 @@ ghost use mathlib.Core.Bool.{true};
 ghost use Prim.Native.Nat.{_≤_};
 ghost use lib.ListN.{length};
 ghost use Rattle.journal.specs.Valid.{valid};
-ghost use Rattle.rtu.specs.Frame.{overlay};
+ghost use Rattle.words.specs.Overlay.{overlay};
+ghost use Rattle.words.specs.Bytes.{Bytes};
+ghost use Rattle.framing.specs.Framing.{roomIn};
+ghost use Rattle.framing.specs.Steps.{carriedBy};
 ghost use Rattle.plans.proofs.Plans.{Facts};
 ghost use Rattle.replies.specs.Reply.{replyOf};
 ghost use Rattle.admission.specs.Steps.{judgedOf};
 ghost use Rattle.execution.specs.Steps.{effectOf};
-ghost use Rattle.frames.specs.Steps.{Bounded, stepOf, stepFor, servedOf};
+ghost use Rattle.frames.specs.Steps.{stepOf, stepFor, servedOf};
 use admission::Judged;
 use execution::Change;
 use execution::Effect;
@@ -50,7 +53,7 @@ fn answer(
     body: &[u8],
     arrival: Arrival,
 ) -> Effect
-    requires { ⌜ (256 ≤ length (now reply)) × (valid (now volume) ≡ true) × Facts (now body) plan × Bounded (now body) plan ⌝ }
+    requires { ⌜ (256 ≤ length (now reply)) × (length (now body) ≤ 254) × (valid (now volume) ≡ true) × Facts (now body) plan ⌝ }
     ensures { λ r. ⌜ r ≡ effectOf (stepOf own counters sensor header (now (body .entry)) (now (volume .entry)) arrival plan) ⌝ }
     ensures { λ _. ⌜ now (reply .exit) ≡ overlay (stepOf own counters sensor header (now (body .entry)) (now (volume .entry)) arrival plan .body) (now (reply .entry)) ⌝ }
     ensures { λ _. ⌜ now (volume .exit) ≡ stepOf own counters sensor header (now (body .entry)) (now (volume .entry)) arrival plan .volume ⌝ }
@@ -82,10 +85,10 @@ fn answer(
     }
 }
 
-// What comes of a frame that was judged. Of the sonde it needs the address, the counters and the sensor that the frame names.
+// What comes of a frame whose body was judged. Of the sonde it needs the address, the counters and the sensor that the frame names.
 pub fn serve(
     judged: Judged,
-    frame: &[u8],
+    body: &[u8],
     reply: &mut [u8],
     volume: &mut [u16],
     own: u8,
@@ -93,10 +96,11 @@ pub fn serve(
     sensor: Sensor,
     arrival: Arrival,
 ) -> Served
-    requires { ⌜ (256 ≤ length (now reply)) × (valid (now volume) ≡ true) × (judged ≡ judgedOf own (now frame)) ⌝ }
-    ensures { λ r. ⌜ r ≡ servedOf (stepFor own counters sensor (now (frame .entry)) (now (volume .entry)) arrival) ⌝ }
-    ensures { λ _. ⌜ now (reply .exit) ≡ overlay (replyOf (stepFor own counters sensor (now (frame .entry)) (now (volume .entry)) arrival .body)) (now (reply .entry)) ⌝ }
-    ensures { λ _. ⌜ now (volume .exit) ≡ stepFor own counters sensor (now (frame .entry)) (now (volume .entry)) arrival .volume ⌝ }
+    requires { ⌜ (roomIn (arrival .ascii) ≤ length (now reply)) × (length (now body) ≤ 254) × (valid (now volume) ≡ true) × (judged ≡ judgedOf own (now body)) ⌝ }
+    ensures { λ r. ⌜ r ≡ servedOf (arrival .ascii) (stepFor own counters sensor (carriedBy (now (body .entry))) (now (volume .entry)) arrival) ⌝ }
+    ensures { λ _. ⌜ now (reply .exit) ≡ overlay (replyOf (arrival .ascii) (stepFor own counters sensor (carriedBy (now (body .entry))) (now (volume .entry)) arrival .body)) (now (reply .entry)) ⌝ }
+    ensures { λ _. ⌜ now (volume .exit) ≡ stepFor own counters sensor (carriedBy (now (body .entry))) (now (volume .entry)) arrival .volume ⌝ }
+    ensures { λ _. ⌜ Bytes (stepFor own counters sensor (carriedBy (now (body .entry))) (now (volume .entry)) arrival .body) ⌝ }
 {
     let plan = judged.plan;
     let effect = answer(
@@ -107,14 +111,14 @@ pub fn serve(
         counters,
         sensor,
         judged.header,
-        rtu::frame::body(frame),
+        body,
         arrival,
     );
     let event = effect.event;
     let change = effect.change;
     Served {
         event,
-        length: replies::seal(reply, effect.size),
+        length: replies::seal(arrival.ascii, reply, effect.size),
         change,
     }
 }

@@ -2,7 +2,7 @@
 ghost use mathlib.Core.Path.{_≡_};
 ghost use Prim.Native.Nat.{_+_, _%_, _≤_};
 ghost use lib.ListN.{length};
-ghost use Rattle.rtu.specs.Frame.{overlay};
+ghost use Rattle.words.specs.Overlay.{overlay};
 ghost use Rattle.registers.specs.Registers.{registerOf};
 ghost use Rattle.service.specs.Reads.{deviceOf, shownFrom};
 ghost use Rattle.reads.specs.Steps.{ownedBody};

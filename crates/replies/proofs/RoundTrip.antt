@@ -1,29 +1,26 @@
--- Bodies of replies have 2 to 254 bytes, so that their frames pass the RTU check; and what function 16 is answered with, in words.
--- Assumes nothing.
+-- A reply carries its body, in both framings; and what function 16 is answered with, in words. Assumes nothing.
 use mathlib.Core.Path.{_≡_, refl}
-use mathlib.Core.Bool.{true}
+use mathlib.Core.Bool.{Bool}
 use mathlib.Core.List.{List, [], _∷_}
 use Prim.Native.Nat.{ℕ, _+_, _*_, _/_, _%_, _≤_, _<_}
 use native.Mathlib.Omega.{arith}
-use lib.Dec.{lit≤}
+use borrow.Author.Tests.{ne-eqb}
 use lib.ListN.{length, getD}
-use Rattle.words.specs.Bytes.{bytesOf, wordAt}
-use Rattle.words.proofs.Bytes.{Bytes, bytes-length}
-use Rattle.rtu.specs.Frame.{framed, isGood}
-use Rattle.rtu.proofs.RoundTrip.{framed-is-good}
-use Rattle.replies.specs.Reply.{readBody, writtenBody, exceptionBody}
+use Rattle.words.specs.Bytes.{bytesOf, wordAt, Bytes}
+use Rattle.framing.specs.Framing.{carriedIn}
+use Rattle.framing.specs.Framing.Carried.{Body}
+use Rattle.framing.proofs.RoundTrip.{frame-carries}
+use Rattle.replies.specs.Reply.{writtenBody, replyOf}
 
--- the reply to a read of at most 125 words
-pub read-is-good : (address : ℕ) (words : List ℕ) → length words ≤ 125 → isGood (framed (readBody address words)) ≡ true
-unfolding readBody
-read-is-good address words h =
-    let n : length (bytesOf words) ≡ 2 * length words = bytes-length words in
-    framed-is-good (readBody address words) (omega arith) (omega arith)
+-- no bytes, or as many as a frame carries
+pub record Sized (b : List ℕ) : Type 0 where
+  pub least : (length b ≡ 0 → ⊥) → 2 ≤ length b
+  pub most : length b ≤ 254
 
--- an exception reply
-pub exception-is-good : (address function code : ℕ) → isGood (framed (exceptionBody address function code)) ≡ true
-unfolding exceptionBody
-exception-is-good address function code = framed-is-good (exceptionBody address function code) (lit≤ tt) (lit≤ tt)
+-- a reply carries its body
+pub reply-carries : (ascii : Bool) (b : List ℕ) → Bytes b → Sized b → (length b ≡ 0 → ⊥) → carriedIn ascii (replyOf ascii b) ≡ Body b
+unfolding replyOf
+reply-carries ascii b h s n = rw (ne-eqb (length b) 0 n) (frame-carries ascii b h (s .least n) (s .most))
 
 -- the reply to function 16: address, function, start and count, high bytes first
 pub start-and-count : (body : List ℕ) → Bytes body → 6 ≤ length body

@@ -1,4 +1,4 @@
--- Stores into a reply: one byte and one word more. Assumes nothing.
+-- Stores into a reply: one word more. Assumes nothing.
 use mathlib.Core.Path.{_≡_, sym, ap, _∙_}
 use mathlib.Core.List.{List, [], _∷_}
 use Prim.Native.Nat.{ℕ, suc, _+_, _*_, _/_, _%_, _<_}
@@ -9,15 +9,7 @@ use lib.ListN.{length, getD, take, set}
 use lib.Seq.{sets, take-suc, length-take-le}
 use Rattle.words.specs.Bytes.{bytesOf}
 use Rattle.words.proofs.Bytes.{bytes-append, bytes-length}
-use Rattle.rtu.proofs.Stores.{sets-append}
-
--- one byte more of a list
-pub byte-more : (v s : List ℕ) (i : ℕ) → i < length s → set (sets v 0 (take i s)) i (getD s i 0) ≡ sets v 0 (take (i + 1) s)
-byte-more v s i h =
-    let n : 0 + length (take i s) ≡ i = omega (arith, length-take-le i s (le-of-lt h)) in
-    sym (ap (λ (l : List ℕ). sets v 0 l) (ap (λ (k : ℕ). take k s) (add-one i) ∙ take-suc s i 0 h)
-    ∙ sets-append v 0 (take i s) (getD s i 0 ∷ [])
-    ∙ ap (λ (k : ℕ). set (sets v 0 (take i s)) k (getD s i 0)) n)
+use Rattle.words.proofs.Stores.{sets-append}
 
 -- one word more of a list, from byte 3 on
 pub word-more : (v ws : List ℕ) (i : ℕ) → i < length ws

@@ -1,12 +1,13 @@
--- The bodies of replies, byte for byte, which any framing carries, and their framing. Document 01, "Frames", and the public standard. Assumes nothing.
-use mathlib.Core.Bool.{cond}
+-- The bodies of replies, byte for byte, which either framing carries, and their framing. Document 01, "Frames", document 02, wish 1, and the public
+-- standard. Assumes nothing.
+use mathlib.Core.Bool.{Bool, cond}
 use mathlib.Core.List.{List, [], _∷_}
 use Prim.Native.Nat.{ℕ, _*_}
 use lib.Bits.{bitOr}
 use lib.Dec.{eqb}
 use lib.ListN.{length, take}
 use Rattle.words.specs.Bytes.{bytesOf}
-use Rattle.rtu.specs.Frame.{framed}
+use Rattle.framing.specs.Framing.{framedIn}
 
 -- function 3: address, function, byte count, the words that were read
 unfoldable pub readBody : ℕ → List ℕ → List ℕ
@@ -20,10 +21,10 @@ writtenBody function body = cond (eqb function 16) (take 6 body) body
 unfoldable pub markedOf : ℕ → ℕ
 markedOf function = bitOr function 0x80
 
--- "Exception reply: address, function or 0x80, code, CRC"
+-- "Exception reply: address, function or 0x80, code"; the checksum is the framing's
 unfoldable pub exceptionBody : ℕ → ℕ → ℕ → List ℕ
 exceptionBody address function code = address ∷ markedOf function ∷ code ∷ []
 
--- a reply's body in its framing; none where there is no body
-unfoldable pub replyOf : List ℕ → List ℕ
-replyOf body = cond (eqb (length body) 0) [] (framed body)
+-- "The reply goes out in the same framing": a reply's body in ASCII or RTU; none where there is no body
+unfoldable pub replyOf : Bool → List ℕ → List ℕ
+replyOf ascii body = cond (eqb (length body) 0) [] (framedIn ascii body)

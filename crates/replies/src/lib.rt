@@ -4,7 +4,8 @@ ghost use Prim.Native.Nat.{_+_, _*_, _≤_};
 ghost use lib.ListN.{length, take};
 ghost use lib.Seq.{sets};
 ghost use Rattle.words.specs.Bytes.{bytesOf};
-ghost use Rattle.rtu.specs.Frame.{overlay};
+ghost use Rattle.words.specs.Overlay.{overlay};
+ghost use Rattle.framing.specs.Framing.{roomIn};
 ghost use Rattle.replies.specs.Reply.{markedOf, readBody, writtenBody, exceptionBody, replyOf};
 
 // Words from byte 3 on.
@@ -76,13 +77,13 @@ pub fn put_exception(reply: &mut [u8], address: u8, function: u8, code: u8) -> u
 }
 
 // The reply's body in the first n bytes gets its framing; no body is no reply.
-pub fn seal(reply: &mut [u8], n: usize) -> u16
-    requires { ⌜ (n ≤ 254) × (256 ≤ length (now reply)) ⌝ }
-    ensures { λ r. ⌜ r ≡ length (replyOf (take n (now (reply .entry)))) ⌝ }
-    ensures { λ _. ⌜ now (reply .exit) ≡ overlay (replyOf (take n (now (reply .entry)))) (now (reply .entry)) ⌝ }
+pub fn seal(ascii: bool, reply: &mut [u8], n: usize) -> u16
+    requires { ⌜ (n ≤ 254) × (roomIn ascii ≤ length (now reply)) ⌝ }
+    ensures { λ r. ⌜ r ≡ length (replyOf ascii (take n (now (reply .entry)))) ⌝ }
+    ensures { λ _. ⌜ now (reply .exit) ≡ overlay (replyOf ascii (take n (now (reply .entry)))) (now (reply .entry)) ⌝ }
 {
     if n == 0 {
         return 0;
     }
-    rtu::frame::seal(reply, n)
+    framing::seal(ascii, reply, n)
 }

@@ -11,7 +11,8 @@ use lib.ListN.{length, getD, drop}
 use lib.Seq.{drop-append-seam, set-getD}
 use borrow.Author.Tests.{ne-eqb}
 use Rattle.floats.proofs.Bools.{choose}
-use Rattle.rtu.specs.Frame.{bodyOf, overlay}
+use Rattle.words.specs.Overlay.{overlay}
+use Rattle.framing.specs.Framing.{Carried, carriedIn, bodyOf, roomIn}
 use Rattle.modbus.specs.Request.{headerOf}
 use Rattle.modbus.specs.declared.Header.{Header}
 use Rattle.entries.specs.declared.Entry.{Entry}
@@ -39,7 +40,7 @@ use Rattle.state.specs.declared.Sonde.{Sonde}
 use Rattle.service.specs.Agrees.{openings, agrees}
 use Rattle.service.specs.Calls.{made, rejected, freshOf, Begun, begun, beginOf, poweredBy, powerUpOf, rawsFinite, measureOf, auditOf}
 use Rattle.replies.specs.Reply.{replyOf}
-use Rattle.service.specs.Frame.{answer, refusalBody, writeBody, contextOf, writtenBy, writeAt, carried, planned, codeBy, planFor, answerOf, Outcome, outcome, refusedBy, left, frameOf}
+use Rattle.service.specs.Frame.{answer, refusalBody, writeBody, contextOf, writtenBy, writeAt, carriedOut, planned, codeBy, planFor, answerOf, answerTo, Outcome, outcome, refusedBy, left, frameOf}
 use Rattle.service.specs.declared.Arrival.{Arrival}
 use Rattle.service.specs.declared.SondeMade.{SondeMade}
 use Rattle.service.specs.declared.SondeAudit.{SondeAudit}
@@ -102,7 +103,7 @@ frame-number : (d : Sonde) (frame reply w : List ℕ) (a : Arrival) → (frameOf
     → frameOf d frame reply w a ≡ outcome (refusedBy (frameOf d frame reply w a .number) d) reply w
 unfolding frameOf left
 frame-number d frame reply w a =
-    choose P (ltb (length reply) 256) _ _ (λ e h. refl) (λ e. choose P (agrees d w) _ _ (λ f h. absurd (h refl)) (λ f h. refl))
+    choose P (ltb (length reply) (roomIn (a .ascii))) _ _ (λ e h. refl) (λ e. choose P (agrees d w) _ _ (λ f h. absurd (h refl)) (λ f h. refl))
   where
     P : Outcome → Type 0
     P o = (o .number ≡ 0 → ⊥) → o ≡ outcome (refusedBy (o .number) d) reply w
@@ -166,7 +167,7 @@ module _ (w : List ℕ) (v : valid w ≡ true) (a : Arrival) where
   write-volume s k (entry e z r i q g f) = append-volume e (rw i k)
 
   planned-volume : (d : Sonde) (h : Header) (body : List ℕ) (p : Plan) → Facts body p → Keeps w (planned d h body w a p .volume)
-  unfolding carried writtenBy
+  unfolding carriedOut writtenBy
   planned-volume d h body Bad k = same w
   planned-volume d h body Foreign k = same w
   planned-volume d h body BroadcastRead k = same w
@@ -186,17 +187,20 @@ pub record FrameKeeps (reply w : List ℕ) (o : Outcome) : Type 0 where
 pub frame-keeps : (d : Sonde) (frame reply w : List ℕ) (a : Arrival) → FrameKeeps reply w (frameOf d frame reply w a)
 unfolding frameOf left answerOf overlay
 frame-keeps d frame reply w a =
-    choose (FrameKeeps reply w) (ltb (length reply) 256) _ _ (λ e. refused 3)
+    choose (FrameKeeps reply w) (ltb (length reply) (roomIn (a .ascii))) _ _ (λ e. refused 3)
     (λ e. choose (FrameKeeps reply w) (agrees d w) _ _ answered (λ f. refused 4))
   where
     refused : (n : ℕ) → FrameKeeps reply w (outcome (refusedBy n d) reply w)
     refused n = record { whole = λ e. refl; free = refl; past = refl }
 
-    answered : agrees d w ≡ true → FrameKeeps reply w (left (answerOf d frame w a) reply)
+    c : Carried
+    c = carriedIn (a .ascii) frame
+
+    answered : agrees d w ≡ true → FrameKeeps reply w (left (answerTo d frame w a) (a .ascii) reply)
     answered f =
         let v = agrees-parts d w f .volume-valid in
-        let k = planned-volume w v a d (headerOf (bodyOf frame)) (bodyOf frame) (planFor (d .address) frame) (frame-facts (d .address) frame) in
-        let bytes = replyOf (answerOf d frame w a .body) in
+        let k = planned-volume w v a d (headerOf (bodyOf c)) (bodyOf c) (planFor (d .address) c) (frame-facts (d .address) c) in
+        let bytes = replyOf (a .ascii) (answerOf d c w a .body) in
         record { whole = k .whole; free = k .free; past = drop-append-seam bytes (drop (length bytes) reply) }
 
 -- ---- a code
@@ -207,8 +211,8 @@ unfolding withSetup withSensor setupAt sensorAt sensorWithSetup
 with-setup-same d s = ap (λ (l : List Sensor). sonde (d .address) l (d .counters)) (set-getD (d .sensors) (s - 1) noSensor)
 
 carried-refused : (d : Sonde) (h : Header) (body w : List ℕ) (s : ℕ) (x : Written) → (codeOf x ≡ 0 → ⊥)
-    → carried d h body w s x ≡ answer Exception (refusalBody h (codeOf x)) d w
-unfolding carried writeBody
+    → carriedOut d h body w s x ≡ answer Exception (refusalBody h (codeOf x)) d w
+unfolding carriedOut writeBody
 carried-refused d h body w s x n = let k = refused-keeps (setupAt d s) x n in rw (ne-eqb (codeOf x) 0 n, k .0, k .1, with-setup-same d s)
 
 -- what is refused by a code has the refusal's answer, and sonde and volume stay

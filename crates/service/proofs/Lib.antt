@@ -1,3 +1,5 @@
+pub mod Bodies
+pub mod Framings
+pub mod Kept
 pub mod Parts
 pub mod Registers
-pub mod Kept

@@ -3,13 +3,12 @@ use mathlib.Core.Path.{_≡_}
 use mathlib.Core.Bool.{true}
 use mathlib.Core.List.{List}
 use Prim.Native.Nat.{ℕ}
-use Rattle.floats.proofs.Bools.{both, choose}
-use Rattle.rtu.specs.Frame.{isGood, bodyOf}
+use Rattle.floats.proofs.Bools.{both}
+use Rattle.framing.specs.Framing.{Carried, bodyOf}
+use Rattle.framing.specs.Framing.Carried.{Bad, Body}
 use Rattle.modbus.specs.Request.{headerOf}
 use Rattle.journal.specs.Valid.{valid}
 use Rattle.journal.specs.Replay.{replays}
-use Rattle.plans.specs.Plans.{planOf}
-use Rattle.plans.specs.declared.Plan.the-variants.{Bad}
 use Rattle.plans.proofs.Plans.{Facts, plan-facts}
 use Rattle.state.specs.Sonde.{validSonde}
 use Rattle.state.specs.declared.Sonde.{Sonde}
@@ -29,8 +28,6 @@ agrees-parts d w h =
     record { sonde-valid = a .0; volume-valid = b .0; same = b .1 }
 
 -- whatever a frame asks for has the facts of its plan
-pub frame-facts : (own : ℕ) (frame : List ℕ) → Facts (bodyOf frame) (planFor own frame)
-unfolding planFor
-frame-facts own frame =
-    choose (Facts (bodyOf frame)) (isGood frame) (planOf own (headerOf (bodyOf frame)) (bodyOf frame)) Bad
-    (λ e. plan-facts own (headerOf (bodyOf frame)) (bodyOf frame)) (λ e. tt)
+pub frame-facts : (own : ℕ) (c : Carried) → Facts (bodyOf c) (planFor own c)
+frame-facts own Bad = tt
+frame-facts own (Body body) = plan-facts own (headerOf body) body

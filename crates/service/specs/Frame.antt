@@ -1,12 +1,15 @@
 -- What a frame does: number, sonde, reply and volume as one function of what goes in. Document 01, "Frames", in its order: numbers 3 and 4;
--- bad; another's; a read at address 0; codes 1, 3, 2, 0x80 and 0xC2, which the plan has; then the field's write. Assumes nothing.
-use mathlib.Core.Bool.{cond}
+-- bad; another's; a read at address 0; codes 1, 3, 2, 0x80 and 0xC2, which the plan has; then the field's write. Document 02, wish 1: a frame has
+-- one of two framings, and what it carries is all that is judged. Assumes nothing.
+use mathlib.Core.Bool.{Bool, cond}
 use mathlib.Core.List.{List, []}
 use Prim.Native.Nat.{ℕ}
 use lib.Dec.{eqb, ltb}
 use lib.ListN.{length}
 use Rattle.words.specs.Mask.{maskedOf}
-use Rattle.rtu.specs.Frame.{isGood, bodyOf, overlay}
+use Rattle.words.specs.Overlay.{overlay}
+use Rattle.framing.specs.Framing.{Carried, carriedIn, bodyOf, roomIn}
+use Rattle.framing.specs.Framing.Carried.{Bad as BadFrame, Body}
 use Rattle.modbus.specs.Request.{headerOf}
 use Rattle.modbus.specs.declared.Header.{Header}
 use Rattle.modbus.specs.declared.Value.{Value}
@@ -34,9 +37,10 @@ use Rattle.service.specs.declared.SondeFrame.{SondeFrame}
 
 -- ---- what a frame asks for
 
--- "A frame shorter than 4 or longer than 256 bytes, or with a wrong CRC-16 .., counts bad"; of any other its body is judged
-unfoldable pub planFor : ℕ → List ℕ → Plan
-planFor own frame = cond (isGood frame) (planOf own (headerOf (bodyOf frame)) (bodyOf frame)) Bad
+-- a bad frame "counts bad"; of any other its body is judged, in whichever framing it came
+abbrev pub planFor : ℕ → Carried → Plan
+planFor own BadFrame = Bad
+planFor own (Body body) = planOf own (headerOf body) body
 
 -- the words that a write gives its field: "mask: (old and A) or (B and not A), then as 6"; old is what a read shows
 abbrev pub firstWord : ℕ → Value → ℕ
@@ -63,7 +67,7 @@ answer event body d w = record { event = event; body = body; sonde = d; volume =
 unfoldable pub sent : Header → List ℕ → List ℕ
 sent h body = cond (eqb (h .address) 0) [] body
 
--- "Exception reply: address, function or 0x80, code, CRC"
+-- the reply to what is refused by a code, if one is sent
 abbrev pub refusalBody : Header → ℕ → List ℕ
 refusalBody h code = sent h (exceptionBody (h .address) (h .function) code)
 
@@ -88,8 +92,8 @@ abbrev pub writeAt : Sonde → List ℕ → Arrival → ℕ → Field → Value 
 writeAt d w a s f v = writtenBy s (sensorAt d s) f v (contextOf w a)
 
 -- demand 1: "a code changes only the message counters"; what is stored is the sensor's; an update also appends its entry
-unfoldable pub carried : Sonde → Header → List ℕ → List ℕ → ℕ → Written → Answer
-carried d h body w s x =
+unfoldable pub carriedOut : Sonde → Header → List ℕ → List ℕ → ℕ → Written → Answer
+carriedOut d h body w s x =
     answer (eventOf (codeOf x)) (writeBody h body (codeOf x)) (withSetup d s (setupAfter (setupAt d s) x)) (appendsOf w (entriesOf x))
 
 -- ---- the frame
@@ -101,7 +105,7 @@ planned d h body w a Foreign = answer Uncounted [] d w
 planned d h body w a BroadcastRead = answer Good [] d w
 planned d h body w a (Refused code) = answer Exception (refusalBody h code) d w
 planned d h body w a (Reading start count) = answer Good (readingBody d w a start count) d w
-planned d h body w a (Writing s f v) = carried d h body w s (writeAt d w a s f v)
+planned d h body w a (Writing s f v) = carriedOut d h body w s (writeAt d w a s f v)
 
 -- the code that refuses what a frame asks; 0 for none
 abbrev pub codeBy : Sonde → List ℕ → Arrival → Plan → ℕ
@@ -112,8 +116,12 @@ codeBy d w a (Refused code) = code
 codeBy d w a (Reading start count) = 0
 codeBy d w a (Writing s f v) = codeOf (writeAt d w a s f v)
 
-unfoldable pub answerOf : Sonde → List ℕ → List ℕ → Arrival → Answer
-answerOf d frame w a = planned d (headerOf (bodyOf frame)) (bodyOf frame) w a (planFor (d .address) frame)
+-- by what a frame carries
+unfoldable pub answerOf : Sonde → Carried → List ℕ → Arrival → Answer
+answerOf d c w a = planned d (headerOf (bodyOf c)) (bodyOf c) w a (planFor (d .address) c)
+
+abbrev pub answerTo : Sonde → List ℕ → List ℕ → Arrival → Answer
+answerTo d frame w a = answerOf d (carriedIn (a .ascii) frame) w a
 
 -- ---- what is left after the call
 
@@ -132,22 +140,23 @@ outcome r reply volume = record { number = r .number; size = r .length; sonde = 
 abbrev pub refusedBy : ℕ → Sonde → SondeFrame
 refusedBy number d = record { number = number; length = 0; sonde = d }
 
--- "a frame refused by code also gives 0, and each frame gives its reply's length, 0 for none"; "Reply bytes past the reply's length stay"
-unfoldable pub left : Answer → List ℕ → Outcome
-left x reply =
+-- "a frame refused by code also gives 0, and each frame gives its reply's length, 0 for none"; "Reply bytes past the reply's length stay"; "The
+-- reply goes out in the same framing"
+unfoldable pub left : Answer → Bool → List ℕ → Outcome
+left x ascii reply =
     record {
       number = 0;
-      size = length (replyOf (x .body));
+      size = length (replyOf ascii (x .body));
       sonde = countedBy (x .event) (x .sonde);
-      reply = overlay (replyOf (x .body)) reply;
+      reply = overlay (replyOf ascii (x .body)) reply;
       volume = x .volume;
     }
 
-abbrev pub arrival : ℕ → Arrival
-arrival clock = record { clock = clock }
+abbrev pub arrival : ℕ → Bool → Arrival
+arrival clock ascii = record { clock = clock; ascii = ascii }
 
--- "3: reply buffer under 256 bytes", then number 4
+-- number 3, by the room that the framing's replies need, before any look at the frame; then number 4
 unfoldable pub frameOf : Sonde → List ℕ → List ℕ → List ℕ → Arrival → Outcome
 frameOf d frame reply w a =
-    cond (ltb (length reply) 256) (outcome (refusedBy 3 d) reply w)
-    (cond (agrees d w) (left (answerOf d frame w a) reply) (outcome (refusedBy 4 d) reply w))
+    cond (ltb (length reply) (roomIn (a .ascii))) (outcome (refusedBy 3 d) reply w)
+    (cond (agrees d w) (left (answerTo d frame w a) (a .ascii) reply) (outcome (refusedBy 4 d) reply w))

@@ -2,3 +2,4 @@ pub mod Agrees
 pub mod Calls
 pub mod Reads
 pub mod Frame
+pub mod Framings

@@ -1,9 +1,10 @@
 // What the six calls take and hand back. The definitions of the calls are in specs/, their code in the crates above; there is none here.
 use state::Sonde;
 
-// When and how a frame came: the clock, in whole seconds.
+// When and how a frame came: the clock, in whole seconds, and its framing, ASCII or RTU.
 pub struct Arrival {
     pub clock: u32,
+    pub ascii: bool,
 }
 
 // What fresh, begin, power-up and measure hand back.

@@ -3,6 +3,7 @@
 ghost use mathlib.Core.Path.{_≡_};
 ghost use Rattle.service.specs.Calls.{begun, freshOf, beginOf, powerUpOf, measureOf, auditOf};
 ghost use Rattle.service.specs.Frame.{arrival, outcome, frameOf};
+ghost use Rattle.service.specs.Framings.{AnswersBytes};
 use execution::Change;
 use refusals::numbers;
 use service::Arrival;
@@ -45,8 +46,8 @@ pub extern "C" fn sonde_measure(
     calls::measure(sonde, sensor, present, raw1, raw2)
 }
 
-// The numbers come first. Then the frame is judged and answered from the parts of the sonde that it needs, and what it changes is put into the
-// sonde once.
+// The numbers come first. Then what the frame carries is judged and answered from the parts of the sonde that it needs, and what it changes is put
+// into the sonde once. An ASCII frame is decoded into bytes of the call's own; the body of an RTU frame is a part of it.
 #[no_mangle]
 pub extern "C" fn sonde_frame(
     mut sonde: Sonde,
@@ -54,12 +55,14 @@ pub extern "C" fn sonde_frame(
     reply: &mut [u8],
     volume: &mut [u16],
     clock: u32,
+    ascii: bool,
 ) -> SondeFrame
-    ensures { λ r. ⌜ outcome r (now (reply .exit)) (now (volume .exit)) ≡ frameOf sonde (now (frame .entry)) (now (reply .entry)) (now (volume .entry)) (arrival clock) ⌝ }
+    ensures { λ r. ⌜ outcome r (now (reply .exit)) (now (volume .exit)) ≡ frameOf sonde (now (frame .entry)) (now (reply .entry)) (now (volume .entry)) (arrival clock ascii) ⌝ }
+    ensures { λ _. ⌜ AnswersBytes sonde (now (frame .entry)) (now (reply .entry)) (now (volume .entry)) (arrival clock ascii) ⌝ }
 {
     let agreed = sonde.is_valid()
         & consistency::journal_agrees(consistency::opening(sonde), volume);
-    let number = admission::number_of(reply.len(), agreed);
+    let number = admission::number_of(ascii, reply.len(), agreed);
     if number != numbers::DONE {
         return SondeFrame {
             number,
@@ -67,19 +70,22 @@ pub extern "C" fn sonde_frame(
             sonde,
         };
     }
-    let judged = admission::judge(sonde.address, frame);
+    let mut decoded: [u8; 255] = [0; 255];
+    let n = framing::decode(ascii, frame, &mut decoded);
+    let body = framing::body(ascii, frame, &decoded[..n]);
+    let judged = admission::judge(sonde.address, body);
     let i = admission::sensor_index(judged);
     let s = sonde.sensors[i];
     let counters = sonde.counters;
     let served = frames::serve(
         judged,
-        frame,
+        body,
         reply,
         volume,
         sonde.address,
         counters,
         s,
-        Arrival { clock },
+        Arrival { clock, ascii },
     );
     let event = served.event;
     let after = counters.count(event);

@@ -1,6 +1,6 @@
 -- Each arm of the plan is a step of the definition. Assumes nothing.
 use mathlib.Core.Path.{refl}
-use Rattle.rtu.specs.Frame.{overlay}
+use Rattle.words.specs.Overlay.{overlay}
 use borrow.Author.Needs.{needs}
 use Rattle.frames.proofs.answer.Statement.{statement}
 use Rattle.frames.proofs.answer.Tie as tie
@@ -9,16 +9,15 @@ read-requires : tie.Need-read-requires
 read-requires c κs =
     let p = c .before .before .before in
     let x = p .before .before .before .before .before in
-    let f = rw (p .plan2 .given .1) at (x .pre .2) in
+    let f = rw (p .plan2 .given .1) at (x .pre .3) in
     (search needs, f .most, f .block)
 
 write-requires : tie.Need-write-requires
 write-requires c κs =
     let p = c .before .before .before in
     let x = p .before .before .before .before .before in
-    let f = rw (p .plan3 .given .1) at (x .pre .2) in
-    let b = rw (p .plan3 .given .1) at (x .pre .3) in
-    (search needs, f .long, b, f .located .is-sensor, search needs)
+    let f = rw (p .plan3 .given .1) at (x .pre .3) in
+    (search needs, f .long, x .pre .1, f .located .is-sensor, search needs)
 
 returns : tie.Need-returns
 unfolding overlay

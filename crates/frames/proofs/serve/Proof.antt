@@ -4,8 +4,14 @@ use mathlib.Core.List.{List}
 use Prim.Native.Nat.{ℕ, _≤_}
 use native.Mathlib.Omega.{arith}
 use lib.ListN.{length, take}
-use Rattle.rtu.specs.Frame.{bodyOf, overlay}
-use Rattle.rtu.proofs.Stores.{body-stands}
+use Rattle.words.specs.Overlay.{overlay}
+use Rattle.words.specs.Bytes.{Bytes}
+use Rattle.words.proofs.Bytes.{take-bytes}
+use Rattle.words.proofs.Stores.{overlay-start}
+use Rattle.framing.specs.Steps.{carriedBy}
+use Rattle.framing.proofs.Carried.{body-again}
+use Rattle.framing.proofs.Sealed.{room-least}
+use Rattle.plans.proofs.Plans.{Facts}
 use Rattle.sensors.specs.declared.Sensor.{Sensor}
 use Rattle.state.specs.declared.Counters.{Counters}
 use Rattle.service.specs.declared.Arrival.{Arrival}
@@ -16,53 +22,60 @@ use Rattle.execution.specs.Steps.{Step, effectOf}
 use Rattle.admission.specs.Steps.{judgedOf}
 use Rattle.frames.specs.Steps.{stepOf, stepFor}
 use Rattle.admission.specs.declared.Judged.{Judged}
-use Rattle.frames.proofs.Steps.{step-short, frame-bounded}
+use Rattle.frames.proofs.Steps.{step-short}
 use Rattle.replies.proofs.Sealed.{reply-sealed}
 use borrow.Author.Needs.{needs}
 use Rattle.frames.proofs.serve.Statement.{statement}
 use Rattle.frames.proofs.serve.Tie as tie
 
 -- the step by the parts that were judged
-step-same : (own : ℕ) (c : Counters) (s : Sensor) (frame w : List ℕ) (a : Arrival) (j : Judged) (body : List ℕ) → j ≡ judgedOf own frame → body ≡ bodyOf frame
-    → stepOf own c s (j .header) body w a (j .plan) ≡ stepFor own c s frame w a
+step-same : (own : ℕ) (c : Counters) (s : Sensor) (body w : List ℕ) (a : Arrival) (j : Judged) → j ≡ judgedOf own body
+    → stepOf own c s (j .header) body w a (j .plan) ≡ stepFor own c s (carriedBy body) w a
 unfolding stepFor
-step-same own c s frame w a j body e f = rw (e, f)
+step-same own c s body w a j e = rw (e, body-again body)
 
--- its body fits a frame
-for-short : (own : ℕ) (c : Counters) (s : Sensor) (frame w : List ℕ) (a : Arrival) → length (stepFor own c s frame w a .body) ≤ 254
+-- what the body asks for has the facts of its plan
+facts : (own : ℕ) (body : List ℕ) → Facts body (planFor own (carriedBy body))
+facts own body = rw (body-again body) at (frame-facts own (carriedBy body))
+
+-- the reply's body fits a frame
+for-short : (own : ℕ) (c : Counters) (s : Sensor) (body w : List ℕ) (a : Arrival) → length body ≤ 254 → length (stepFor own c s (carriedBy body) w a .body) ≤ 254
 unfolding stepFor
-for-short own c s frame w a = step-short (headerOf (bodyOf frame)) (bodyOf frame) own c s w a (planFor own frame) (frame-facts own frame) (frame-bounded own frame)
+for-short own c s body w a l = rw (body-again body) (step-short (headerOf body) body own c s w a (planFor own (carriedBy body)) (facts own body) l)
+
+-- bytes over the start of a buffer of bytes
+start-bytes : (buffer b : List ℕ) → Bytes (overlay b buffer) → Bytes b
+start-bytes buffer b h = rw (overlay-start buffer b (length b) refl) at (take-bytes (length b) (overlay b buffer) h)
 
 answer-requires : tie.Need-answer-requires
 answer-requires c κs =
-    let x = c .before .before .before .before .before .before in
+    let x = c .before .before .before .before .before in
     let a = x .args in
-    rw (c .body .ensures, x .pre .2) (search needs, search needs, frame-facts (a .own) (a .frame .now), frame-bounded (a .own) (a .frame .now))
+    rw (x .pre .3) (omega (arith, x .pre .0, room-least (a .arrival .ascii)), x .pre .1, x .pre .2, facts (a .own) (a .body .now))
 
 seal-requires : tie.Need-seal-requires
 seal-requires c κs =
     let s = c .before .before .before .before .before in
-    let x = s .before .before .before .before .before .before .before in
+    let x = s .before .before .before .before .before .before in
     let a = x .args in
-    let e = s .answer .ensures .0 ∙ ap effectOf (step-same (a .own) (a .counters) (a .sensor) (a .frame .now) (a .volume .now) (a .arrival) (a .judged) _ (x .pre .2) (s .before .body .ensures)) in
-    (rw e (for-short (a .own) (a .counters) (a .sensor) (a .frame .now) (a .volume .now) (a .arrival)), search needs)
+    let e = s .answer .ensures .0 ∙ ap effectOf (step-same (a .own) (a .counters) (a .sensor) (a .body .now) (a .volume .now) (a .arrival) (a .judged) (x .pre .3)) in
+    (rw e (for-short (a .own) (a .counters) (a .sensor) (a .body .now) (a .volume .now) (a .arrival) (x .pre .1)), search needs)
 
 returns : tie.Need-returns
 returns c =
     let l = c .before .before in
     let s = l .before .before .before .before .before .before in
-    let x = s .before .before .before .before .before .before .before in
+    let x = s .before .before .before .before .before .before in
     let a = x .args in
-    let p = step-same (a .own) (a .counters) (a .sensor) (a .frame .now) (a .volume .now) (a .arrival) (a .judged) _ (x .pre .2) (s .before .body .ensures) in
-    let y = stepFor (a .own) (a .counters) (a .sensor) (a .frame .now) (a .volume .now) (a .arrival) in
+    let p = step-same (a .own) (a .counters) (a .sensor) (a .body .now) (a .volume .now) (a .arrival) (a .judged) (x .pre .3) in
+    let y = stepFor (a .own) (a .counters) (a .sensor) (carriedBy (a .body .now)) (a .volume .now) (a .arrival) in
     let e : s .answer .result ≡ effectOf y = s .answer .ensures .0 ∙ ap effectOf p in
     let r : s .answer .last .1 .0 ≡ overlay (y .body) (a .reply .now) = s .answer .ensures .1 .0 ∙ ap (λ (z : Step). overlay (z .body) (a .reply .now)) p in
     let w : s .answer .last .1 .1 .0 ≡ y .volume = s .answer .ensures .1 .1 ∙ ap (λ (z : Step). z .volume) p in
-    let t : take (length (y .body)) (overlay (y .body) (a .reply .now)) ≡ y .body = body-stands (a .reply .now) (y .body) (length (y .body)) refl in
-    let k = reply-sealed (a .reply .now) (y .body) (omega (arith, for-short (a .own) (a .counters) (a .sensor) (a .frame .now) (a .volume .now) (a .arrival))) in
-    (rw (l .seal .ensures .0, r, e, t), (l .seal .ensures .1 ∙ rw (r, e, t) k, w))
+    let t : take (length (y .body)) (overlay (y .body) (a .reply .now)) ≡ y .body = overlay-start (a .reply .now) (y .body) (length (y .body)) refl in
+    let k : Bytes (s .answer .last .1 .0) = record { below = λ i. omega (arith, l .before .before .before .before .slice-known3 .given i) } in
+    let b : Bytes (y .body) = start-bytes (a .reply .now) (y .body) (rw r at k) in
+    (rw (l .seal .ensures .0, r, e, t), (l .seal .ensures .1 ∙ rw (r, e, t) (reply-sealed (a .arrival .ascii) (a .reply .now) (y .body)), (w, b)))
 
 pub serve-spec : {M : Type 1} → statement M
-serve-spec =
-    tie.close
-    (tie.spec (λ c κs. search needs) answer-requires seal-requires (λ c. search needs) (λ c. search needs) returns)
+serve-spec = tie.close (tie.spec answer-requires seal-requires (λ c. search needs) (λ c. search needs) returns)

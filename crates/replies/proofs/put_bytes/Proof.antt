@@ -5,7 +5,7 @@ use Prim.Native.Nat.{_≤_, _-_}
 use native.Mathlib.Omega.{arith}
 use lib.ListN.{length, take}
 use lib.Seq.{sets, take-length}
-use Rattle.replies.proofs.Stores.{byte-more}
+use Rattle.words.proofs.Stores.{byte-more}
 use Rattle.replies.proofs.put_bytes.Statement.{statement}
 use Rattle.replies.proofs.put_bytes.Tie as tie
 

@@ -1,7 +1,7 @@
 -- Three stores make the body. Assumes nothing.
 use mathlib.Core.List.{[], _∷_}
 use Rattle.replies.specs.Reply.{exceptionBody, markedOf}
-use Rattle.rtu.proofs.Stores.{sets-overlay}
+use Rattle.words.proofs.Stores.{sets-overlay}
 use native.Mathlib.Omega.{arith}
 use mathlib.Core.Path.{refl}
 use lib.ListN.{length-set}

@@ -4,7 +4,7 @@ use Prim.Native.Nat.{_+_, _*_}
 use native.Mathlib.Omega.{arith}
 use lib.ListN.{length, length-set}
 use Rattle.replies.specs.Reply.{readBody}
-use Rattle.rtu.proofs.Stores.{sets-overlay}
+use Rattle.words.proofs.Stores.{sets-overlay}
 use Rattle.words.proofs.Bytes.{bytes-length}
 use borrow.Author.Needs.{needs}
 use Rattle.replies.proofs.put_read.Statement.{statement}

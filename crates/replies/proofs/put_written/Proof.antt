@@ -4,7 +4,7 @@ use lib.ListN.{length, take}
 use lib.Seq.{length-take-le}
 use borrow.Author.Tests.{eq-eqb, ne-eqb}
 use native.Mathlib.Omega.{arith}
-use Rattle.rtu.proofs.Stores.{sets-overlay}
+use Rattle.words.proofs.Stores.{sets-overlay}
 use Rattle.replies.specs.Reply.{writtenBody}
 use borrow.Author.Needs.{needs}
 use Rattle.replies.proofs.put_written.Statement.{statement}

@@ -4,8 +4,8 @@ use lib.ListN.{length, take}
 use lib.Seq.{length-take-le}
 use native.Mathlib.Omega.{arith}
 use borrow.Author.Tests.{ne-eqb}
-use Rattle.rtu.specs.Frame.{overlay}
-use Rattle.rtu.proofs.Stores.{framed-length}
+use Rattle.words.specs.Overlay.{overlay}
+use Rattle.framing.proofs.Sealed.{room-least}
 use Rattle.replies.specs.Reply.{replyOf}
 use borrow.Author.Needs.{needs}
 use Rattle.replies.proofs.seal.Statement.{statement}
@@ -21,9 +21,9 @@ returns-2 c =
     let s = c .before .before in
     let i = s .before .before in
     let a = i .before .before .args in
-    let l : length (take (a .n) (a .reply .now)) ≡ a .n = length-take-le (a .n) (a .reply .now) (omega arith) in
+    let l : length (take (a .n) (a .reply .now)) ≡ a .n = length-take-le (a .n) (a .reply .now) (omega (arith, room-least (a .ascii))) in
     let e = ne-eqb (length (take (a .n) (a .reply .now))) 0 (λ z. i .if1 .left (sym l ∙ z)) in
-    rw e (omega (arith, s .seal .ensures .0, framed-length (take (a .n) (a .reply .now)), l), s .seal .ensures .1)
+    rw e (s .seal .ensures)
 
 pub seal-spec : {M : Type 1} → statement M
 seal-spec = tie.close (tie.spec returns (λ c κs. search needs) (λ c. search needs) returns-2)

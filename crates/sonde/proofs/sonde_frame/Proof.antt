@@ -1,16 +1,18 @@
 -- The numbers come first, in their order; then what the frame changes is put into the sonde. Assumes nothing.
-use mathlib.Core.Path.{_≡_, _∙_}
+use mathlib.Core.Path.{_≡_, sym, ap, _∙_}
 use native.Mathlib.Omega.{arith}
 use lib.ListN.{length}
 use borrow.Author.Tests.{ltb-false}
-use Rattle.rtu.specs.Frame.{bodyOf}
+use Rattle.framing.specs.Framing.{bodyOf, roomIn}
+use Rattle.framing.specs.Steps.{carriedBy}
+use Rattle.framing.proofs.Carried.{decoded-most, carried-again, carried-most}
 use Rattle.state.specs.Sonde.{sensorAt}
 use Rattle.service.specs.Agrees.{agrees}
 use Rattle.service.specs.Frame.{planFor, arrival}
 use Rattle.service.proofs.Parts.{agrees-parts, frame-facts}
 use Rattle.admission.specs.Steps.{numberBy}
 use Rattle.admission.proofs.Owners.{owner-below}
-use Rattle.sonde.proofs.Left.{refused-left, passed, nothing-left, setup-left}
+use Rattle.sonde.proofs.Left.{refused-left, refused-bytes, passed, handed-on, step-bytes, nothing-left, setup-left}
 use borrow.Author.Needs.{needs}
 use Rattle.sonde.proofs.sonde_frame.Statement.{statement}
 use Rattle.sonde.proofs.sonde_frame.Tie as tie
@@ -23,29 +25,45 @@ returns c =
     let o = j .before .before in
     let v = o .before in
     let a = v .before .before .before .before .args in
-    let e : n .number-of .result ≡ numberBy (length (a .reply .now)) (agrees (a .t1) (a .volume .now))
+    let e : n .number-of .result ≡ numberBy (a .ascii) (length (a .reply .now)) (agrees (a .t1) (a .volume .now))
     = n .number-of .ensures ∙ rw (v .is-valid .ensures, j .journal-agrees .ensures, o .opening .ensures) in
-    refused-left (a .t1) (a .frame .now) (a .reply .now) (a .volume .now) (arrival (a .clock)) (n .number-of .result) e (c .if1 .taken)
+    let k = refused-left (a .t1) (a .frame .now) (a .reply .now) (a .volume .now) (arrival (a .clock) (a .ascii)) (n .number-of .result) e (c .if1 .taken) in
+    (k, refused-bytes (a .t1) (a .frame .now) (a .reply .now) (a .volume .now) (arrival (a .clock) (a .ascii)) (n .number-of .result) k (c .if1 .taken))
+
+array-share-prefix-decoded : tie.Need-array-share-prefix-decoded
+array-share-prefix-decoded c =
+    let d = c .before in
+    let a = d .before .before .before .before .before .before .before .before .before .before .before .args in
+    omega (arith, d .decode .ensures .0, decoded-most (a .ascii) (a .frame .now))
+
+slice-aggregate-body : tie.Need-slice-aggregate-body
+slice-aggregate-body c =
+    let d = c .before .before in
+    d .decode .ensures .0 ∙ sym (ap length (d .decode .ensures .1 .0))
 
 sensor-index-requires : tie.Need-sensor-index-requires
 sensor-index-requires c κs =
-    let a = c .before .before .before .before .before .before .before .before .before .before .args in
-    rw (c .judge .ensures) (owner-below (bodyOf (a .frame .now)) (planFor (a .t1 .address) (a .frame .now)) (frame-facts (a .t1 .address) (a .frame .now)))
+    let a = c .before .before .before .before .before .before .before .before .before .before .before .before .before .before .before .args in
+    let x = carriedBy _ in
+    rw (c .judge .ensures) (owner-below (bodyOf x) (planFor (a .t1 .address) x) (frame-facts (a .t1 .address) x))
 
 serve-requires : tie.Need-serve-requires
 unfolding agrees
 serve-requires c κs =
     let g = c .before .before .before .before .before in
-    let n = g .before .before in
+    let b = g .before in
+    let d = b .before .before .before in
+    let t = d .before .before in
+    let n = t .before in
     let j = n .before in
     let o = j .before .before in
     let v = o .before in
     let a = v .before .before .before .before .args in
-    let e : n .number-of .result ≡ numberBy (length (a .reply .now)) (agrees (a .t1) (a .volume .now))
+    let e : n .number-of .result ≡ numberBy (a .ascii) (length (a .reply .now)) (agrees (a .t1) (a .volume .now))
     = n .number-of .ensures ∙ rw (v .is-valid .ensures, j .journal-agrees .ensures, o .opening .ensures) in
-    let p = agrees-parts (a .t1) (a .volume .now) (passed (length (a .reply .now)) (agrees (a .t1) (a .volume .now)) (n .number-of .result) e (g .before .if1 .left) .1) in
-    let l = ltb-false (length (a .reply .now)) 256 (passed (length (a .reply .now)) (agrees (a .t1) (a .volume .now)) (n .number-of .result) e (g .before .if1 .left) .0) in
-    (l, p .volume-valid, g .judge .ensures)
+    let q = passed (a .ascii) (length (a .reply .now)) (agrees (a .t1) (a .volume .now)) (n .number-of .result) e (t .if1 .left) in
+    let f = handed-on (a .ascii) (a .frame .now) _ _ (b .body .ensures) (d .decode .ensures .1 .0) in
+    (ltb-false (length (a .reply .now)) (roomIn (a .ascii)) (q .0), rw f (carried-most (a .ascii) (a .frame .now)), agrees-parts (a .t1) (a .volume .now) (q .1) .volume-valid, g .judge .ensures)
 
 mul-t : tie.Need-mul-t
 mul-t c = omega (arith, c .before .before .before .before .before .before .before .before .before .before .before .before .before .before .sensor-index .ensures .1)
@@ -59,16 +77,25 @@ returns-2 c =
     let r = c .before .before .before .before .before .before .before in
     let i = r .before .before .before .before .before in
     let g = i .before in
-    let n = g .before .before in
+    let b = g .before in
+    let d = b .before .before .before in
+    let t = d .before .before in
+    let n = t .before in
     let j = n .before in
     let o = j .before .before in
     let v = o .before in
     let a = v .before .before .before .before .args in
-    let e : n .number-of .result ≡ numberBy (length (a .reply .now)) (agrees (a .t1) (a .volume .now))
+    let e : n .number-of .result ≡ numberBy (a .ascii) (length (a .reply .now)) (agrees (a .t1) (a .volume .now))
     = n .number-of .ensures ∙ rw (v .is-valid .ensures, j .journal-agrees .ensures, o .opening .ensures) in
+    let f = handed-on (a .ascii) (a .frame .now) _ _ (b .body .ensures) (d .decode .ensures .1 .0) in
     let own = rw (g .judge .ensures) at (i .sensor-index .ensures .0) in
-    nothing-left (a .t1) (a .frame .now) (a .reply .now) (a .volume .now) (arrival (a .clock)) (n .number-of .result) e (g .before .if1 .left) (r .serve .result) _ _ _ _ (rw own)
-    (r .serve .ensures .0) (r .serve .ensures .1 .0) (r .serve .ensures .1 .1) (c .before .before .count .ensures) (c .enum-told .given .1)
+    let x = ap carriedBy f ∙ carried-again (a .ascii) (a .frame .now) in (
+      nothing-left (a .t1) (a .frame .now) (a .reply .now) (a .volume .now) (arrival (a .clock) (a .ascii)) (n .number-of .result) e (t .if1 .left)
+          _ x (r .serve .result) _ _ _ _ (rw own)
+          (r .serve .ensures .0) (r .serve .ensures .1 .0) (r .serve .ensures .1 .1 .0) (c .before .before .count .ensures) (c .enum-told .given .1),
+      step-bytes (a .t1) (a .frame .now) (a .reply .now) (a .volume .now) (arrival (a .clock) (a .ascii)) (n .number-of .result) e (t .if1 .left)
+          _ x _ (rw own) (r .serve .ensures .1 .1 .1),
+    )
 
 returns-3 : tie.Need-returns-3
 unfolding agrees sensorAt
@@ -76,16 +103,25 @@ returns-3 c =
     let r = c .before .before .before .before .before .before .before .before .before in
     let i = r .before .before .before .before .before in
     let g = i .before in
-    let n = g .before .before in
+    let b = g .before in
+    let d = b .before .before .before in
+    let t = d .before .before in
+    let n = t .before in
     let j = n .before in
     let o = j .before .before in
     let v = o .before in
     let a = v .before .before .before .before .args in
-    let e : n .number-of .result ≡ numberBy (length (a .reply .now)) (agrees (a .t1) (a .volume .now))
+    let e : n .number-of .result ≡ numberBy (a .ascii) (length (a .reply .now)) (agrees (a .t1) (a .volume .now))
     = n .number-of .ensures ∙ rw (v .is-valid .ensures, j .journal-agrees .ensures, o .opening .ensures) in
+    let f = handed-on (a .ascii) (a .frame .now) _ _ (b .body .ensures) (d .decode .ensures .1 .0) in
     let own = rw (g .judge .ensures) at (i .sensor-index .ensures .0) in
-    setup-left (a .t1) (a .frame .now) (a .reply .now) (a .volume .now) (arrival (a .clock)) (n .number-of .result) e (g .before .if1 .left) (r .serve .result) _ _ _ _ (rw own)
-    (r .serve .ensures .0) (r .serve .ensures .1 .0) (r .serve .ensures .1 .1) (c .before .before .before .before .count .ensures) _ _ _ (c .before .before .change .given .1) (c .with-setup .ensures) own
+    let x = ap carriedBy f ∙ carried-again (a .ascii) (a .frame .now) in (
+      setup-left (a .t1) (a .frame .now) (a .reply .now) (a .volume .now) (arrival (a .clock) (a .ascii)) (n .number-of .result) e (t .if1 .left)
+          _ x (r .serve .result) _ _ _ _ (rw own)
+          (r .serve .ensures .0) (r .serve .ensures .1 .0) (r .serve .ensures .1 .1 .0) (c .before .before .before .before .count .ensures) _ _ _ (c .before .before .change .given .1) (c .with-setup .ensures) own,
+      step-bytes (a .t1) (a .frame .now) (a .reply .now) (a .volume .now) (arrival (a .clock) (a .ascii)) (n .number-of .result) e (t .if1 .left)
+          _ x _ (rw own) (r .serve .ensures .1 .1 .1),
+    )
 
 pub sonde-frame-spec : {M : Type 1} → statement M
 sonde-frame-spec =
@@ -97,6 +133,11 @@ sonde-frame-spec =
     (λ c κs. search needs)
     (λ c. search needs)
     returns
+    (λ c. search needs)
+    (λ c κs. search needs)
+    array-share-prefix-decoded
+    slice-aggregate-body
+    (λ c κs. search needs)
     (λ c κs. search needs)
     sensor-index-requires
     (λ c. search needs)
