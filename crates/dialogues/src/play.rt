@@ -49,14 +49,14 @@ fn compare(scene: Scene, name: u8, line: &[u8], spelled: &[u8], reply: &[u8]) ->
     agrees
 }
 
-// One line: a call, an answer to compare, or neither.
+// One line: a call, an answer to compare, or neither. The longest spells the 515 characters of an ASCII frame that is too long by a byte.
 fn turn(run: Run, line: &[u8], reply: &mut [u8], volume: &mut [u16]) -> Run {
     if text::is_passed_over(line) {
         return run;
     }
     let name = text::character(line, 0);
     let name_end = text::find(line, 0, b' ');
-    let mut space = [0u8; 260];
+    let mut space = [0u8; 520];
     let n = text::decode(&line[name_end..], &mut space);
     let scene = run.scene;
     let tally = run.tally;
@@ -75,7 +75,7 @@ fn turn(run: Run, line: &[u8], reply: &mut [u8], volume: &mut [u16]) -> Run {
 // The lines of a dialogue after its name.
 fn play(lines: &[u8]) -> Tally {
     let mut volume = [0u16; WORDS];
-    let mut reply = [0u8; 256];
+    let mut reply = [0u8; 513];
     let mut run = Run {
         scene: Scene::start(),
         tally: Tally::none(),

@@ -6,12 +6,13 @@ use service::SondeMade;
 use state::Sonde;
 use text::character;
 
-// The sonde, the clock of its frames, how many words its volume has, and what the last call gave: its number, and the length of a
-// frame's reply or the entries in use of an audit.
+// The sonde, the clock of its frames, how many words its volume has, how many bytes of the reply buffer its frames are lent, and what the
+// last call gave: its number, and the length of a frame's reply or the entries in use of an audit.
 pub struct Scene {
     pub sonde: Sonde,
     pub clock: u32,
     pub words: usize,
+    pub room: usize,
     pub number: u8,
     pub count: u16,
 }
@@ -33,6 +34,16 @@ fn lent(volume: &[u16], n: usize) -> usize
     0
 }
 
+// How many bytes at the start of the reply buffer are lent where n are to be: none if it has fewer.
+fn lent_bytes(reply: &[u8], n: usize) -> usize
+    ensures { λ r. ⌜ Counts r (now (reply .entry)) ⌝ }
+{
+    if n <= reply.len() {
+        return n;
+    }
+    0
+}
+
 // The raw that begins at a byte; an infinity stands for whatever isn't finite.
 fn raw(spelled: &[u8], at: usize) -> f32
     requires { ⌜ at ≤ 6 ⌝ }
@@ -49,6 +60,7 @@ impl Scene {
             sonde: Sonde::fresh(1),
             clock: 0,
             words: 0,
+            room: 513,
             number: 0,
             count: 0,
         }
@@ -73,6 +85,11 @@ impl Scene {
 
     fn set_clock(mut self, spelled: &[u8]) -> Scene {
         self.clock = (word(spelled, 0) as u32) * 65536 + (word(spelled, 2) as u32);
+        self
+    }
+
+    fn set_room(mut self, spelled: &[u8]) -> Scene {
+        self.room = word(spelled, 0) as usize;
         self
     }
 
@@ -107,9 +124,17 @@ impl Scene {
         self.gave(a.number, a.entries)
     }
 
-    fn frame(mut self, sent: &[u8], reply: &mut [u8], volume: &mut [u16]) -> Scene {
+    fn frame(mut self, sent: &[u8], reply: &mut [u8], volume: &mut [u16], ascii: bool) -> Scene {
+        let m = lent_bytes(reply, self.room);
         let n = lent(volume, self.words);
-        let f = sonde::sonde_frame(self.sonde, sent, reply, &mut volume[..n], self.clock);
+        let f = sonde::sonde_frame(
+            self.sonde,
+            sent,
+            &mut reply[..m],
+            &mut volume[..n],
+            self.clock,
+            ascii,
+        );
         let sonde = f.sonde;
         self.sonde = sonde;
         self.gave(f.number, f.length)
@@ -125,7 +150,9 @@ impl Scene {
             b'p' => self.power_up(spelled, volume),
             b'm' => self.measure(spelled),
             b'a' => self.audit(volume),
-            b'>' => self.frame(spelled, reply, volume),
+            b'r' => self.set_room(spelled),
+            b'>' => self.frame(spelled, reply, volume, false),
+            b':' => self.frame(spelled, reply, volume, true),
             _ => self.gave(255, 0),
         }
     }

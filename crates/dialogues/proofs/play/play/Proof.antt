@@ -7,7 +7,7 @@ use Rattle.dialogues.proofs.play.play.Statement.{statement}
 use Rattle.dialogues.proofs.play.play.Tie as tie
 
 abbrev Inv-loop : tie.InvT-loop
-Inv-loop lines volume₀ reply₀ run₀ at₀ volume reply run at = (24112 ≡ length volume) × (256 ≡ length reply) × (at ≤ length lines + 1)
+Inv-loop lines volume₀ reply₀ run₀ at₀ volume reply run at = (24112 ≡ length volume) × (513 ≡ length reply) × (at ≤ length lines + 1)
 
 abbrev μ-loop : tie.MeasureT-loop
 μ-loop lines volume₀ reply₀ run₀ at₀ volume reply run at = length lines + 1 - at
