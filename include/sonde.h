@@ -1,5 +1,6 @@
 /*
- * The register service of a water-quality sonde: four sensors, their calibration, and the journal of every accepted calibration.
+ * The register service of a water-quality sonde over Modbus RTU and ASCII: four sensors, their calibration, and the journal of every accepted
+ * calibration.
  *
  * Six calls. Each is a function of its arguments alone: no call keeps anything, allocates, blocks or fails to return. The sonde goes in and
  * comes back by value; the host keeps it between calls. The volume (the words of the journal) is the host's memory and is lent for the call.
@@ -9,16 +10,16 @@
  * `rt staticlib sonde` writes.
  *
  *     uint16_t volume[24064];
- *     uint8_t reply[SONDE_REPLY_BYTES];
+ *     uint8_t reply[SONDE_REPLY_BYTES];                 ASCII: SONDE_ASCII_REPLY_BYTES, and true in the place of false below
  *     bool kept = load(volume, 24064);                  false at the very first start
  *     SondeMade made = kept ? sonde_power_up(1, volume, 24064) : sonde_fresh(1);
  *     if (!kept && made.number == SONDE_OK) made = sonde_begin(made.sonde, volume, 24064);
  *     if (made.number != SONDE_OK) { ... }
  *     Sonde sonde = made.sonde;
  *     for (;;) {
- *         size_t n = next_frame(bytes);                 the host cuts frames by silence
+ *         size_t n = next_frame(bytes);                 the host cuts frames, see sonde_frame
  *         sonde = sonde_measure(sonde, 1, true, conductivity(), temperature()).sonde;
- *         SondeFrame f = sonde_frame(sonde, bytes, n, reply, sizeof reply, volume, 24064, seconds());
+ *         SondeFrame f = sonde_frame(sonde, bytes, n, reply, sizeof reply, volume, 24064, seconds(), false);
  *         if (f.number != SONDE_OK) { ... }             nothing was changed
  *         sonde = f.sonde;
  *         store(volume, 24064);                         safely, before the reply is sent
@@ -32,7 +33,7 @@
  *
  *     flash   at most 24576 bytes of code and constants
  *     stack   at most 3584 bytes for a call, with its arguments and its result. A memcpy that the dynamic linker binds late takes its own at first
- *     RAM     what the host keeps: a sonde 396 bytes, the volume 2 for each word (48128 for 1000 entries), the reply 256
+ *     RAM     what the host keeps: a sonde 396 bytes, the volume 2 for each word (48128 for 1000 entries), the reply 256 (ASCII 513)
  */
 #ifndef SONDE_H
 #define SONDE_H
@@ -49,9 +50,10 @@ extern "C" {
 
 /* ---- sizes ---- */
 
-#define SONDE_REPLY_BYTES 256  /* the least reply buffer; a reply is never longer */
-#define SONDE_LEAST_WORDS 88   /* the least volume: capacity 1 */
-#define SONDE_MOST_WORDS 24064 /* words beyond these are never used: capacity 1000 */
+#define SONDE_REPLY_BYTES 256       /* the least reply buffer for an RTU frame; a reply is never longer */
+#define SONDE_ASCII_REPLY_BYTES 513 /* for an ASCII frame; the longest reply has 511 characters */
+#define SONDE_LEAST_WORDS 88        /* the least volume: capacity 1 */
+#define SONDE_MOST_WORDS 24064      /* words beyond these are never used: capacity 1000 */
 
 /* ---- numbers: what a call is refused by. A call that is refused changes nothing. ---- */
 
@@ -59,7 +61,7 @@ enum {
     SONDE_OK = 0,             /* done; also of a frame that was answered by an exception, or got no reply */
     SONDE_BAD_ADDRESS = 1,    /* fresh, power-up: the address isn't 1..247 */
     SONDE_SHORT_VOLUME = 2,   /* begin: fewer than 88 words */
-    SONDE_SHORT_REPLY = 3,    /* frame: the reply buffer has fewer than 256 bytes */
+    SONDE_SHORT_REPLY = 3,    /* frame: the reply buffer has fewer than 256 bytes (RTU) or 513 (ASCII) */
     SONDE_INVALID = 4,        /* the sonde or the volume is invalid, or the calibrations in force aren't the volume's, bit for bit */
     SONDE_NO_SENSOR = 5,      /* measure: the sensor isn't 1..4 */
     SONDE_NOT_FINITE = 6      /* measure, present: a raw value that is read isn't finite */
@@ -135,12 +137,18 @@ SondeMade sonde_power_up(uint8_t address, const uint16_t *volume, size_t words);
 SondeMade sonde_measure(Sonde sonde, uint8_t sensor, bool present, float raw1, float raw2);
 
 /*
- * One Modbus RTU frame, whole and with its checksum, at this clock (whole seconds). `length` bytes of the reply buffer are the reply to send,
- * 0 for none; the bytes past them stay. The volume changes by an accepted calibration alone: write it to safe storage before the reply is
- * sent. Refused by 3, then 4; the length is then 0, and sonde, reply and volume stay as they were.
+ * One Modbus frame, whole, at this clock (whole seconds). The reply has the framing of its request; `length` bytes of the reply buffer are to be
+ * sent, 0 for none, and the bytes past them stay. The volume changes by an accepted calibration alone: write it to safe storage before the reply
+ * is sent. Refused by 3, then 4; the length is then 0, and sonde, reply and volume stay as they were.
+ *
+ * `ascii` says which framing the frame has, and by that how long the reply buffer has to be, whatever the frame holds. The host cuts frames:
+ *     RTU     (false) by silence; up to 256 bytes, the CRC-16 among them
+ *     ASCII   (true) from a colon to LF, both included, and from the last colon where there are more; up to 513 characters, their top bit 0 (of
+ *             7 data bits with parity, the parity bit taken off), digits A-F in capitals
+ * A frame that breaks its form, or is longer, counts bad and gets no reply. Of a longer one the first 257 bytes (ASCII 514) are enough.
  */
 SondeFrame sonde_frame(Sonde sonde, const uint8_t *frame, size_t frame_len, uint8_t *reply, size_t reply_len, uint16_t *volume, size_t words,
-                       uint32_t clock);
+                       uint32_t clock, bool ascii);
 
 /* Whether the sonde and its volume are valid and agree: 0 with the entries in use, or 4 with 0. Changes nothing. */
 SondeAudit sonde_audit(Sonde sonde, const uint16_t *volume, size_t words);

@@ -1,6 +1,7 @@
 /*
  * A host in C, through include/sonde.h: begins a volume, calibrates sensor 2 over frames (two points), reads the calibration back, powers up
- * and audits. Each step is compared with the bytes and numbers that document 01 gives; the exit status is 1 where one differs.
+ * and audits, then does the same in ASCII, and in both framings side by side. Each step is compared with the bytes and numbers that documents 01
+ * and 02 give; the exit status is 1 where one differs.
  */
 #include <stdio.h>
 #include <string.h>
@@ -10,7 +11,7 @@
 #define WORDS 136 /* capacity 3 */
 
 static uint16_t volume[WORDS];
-static uint8_t reply[SONDE_REPLY_BYTES];
+static uint8_t reply[SONDE_ASCII_REPLY_BYTES]; /* RTU frames are lent the first SONDE_REPLY_BYTES */
 static int failed;
 
 static void check(bool holds, const char *what) {
@@ -49,14 +50,14 @@ static Sonde ask(Sonde sonde, const uint8_t *body, size_t n, const uint8_t *expe
     memcpy(answer, expected, m);
     size_t sent = sealed(frame, n), due = sealed(answer, m);
     memset(reply, 0xAA, sizeof reply);
-    SondeFrame f = sonde_frame(sonde, frame, sent, reply, sizeof reply, volume, WORDS, 0x12345678);
+    SondeFrame f = sonde_frame(sonde, frame, sent, reply, SONDE_REPLY_BYTES, volume, WORDS, 0x12345678, false);
     check(f.number == SONDE_OK && f.length == due && memcmp(reply, answer, due) == 0 && rest_stays(due), what);
     return f.sonde;
 }
 
 #define BYTES(...) (const uint8_t[]){__VA_ARGS__}, sizeof((const uint8_t[]){__VA_ARGS__})
 
-int main(void) {
+static void in_rtu(void) {
     check(sonde_fresh(0).number == SONDE_BAD_ADDRESS, "fresh at address 0: number 1");
     SondeMade made = sonde_fresh(17);
     check(made.number == SONDE_OK && made.sonde.address == 17, "fresh at address 17");
@@ -86,10 +87,10 @@ int main(void) {
 
     /* Numbers of the frame call, a bad frame, and a counter that has stopped. */
     memset(reply, 0xAA, sizeof reply);
-    SondeFrame f = sonde_frame(s, BYTES(17, 3, 0, 0, 0, 1), reply, SONDE_REPLY_BYTES - 1, volume, WORDS, 0);
+    SondeFrame f = sonde_frame(s, BYTES(17, 3, 0, 0, 0, 1), reply, SONDE_REPLY_BYTES - 1, volume, WORDS, 0, false);
     check(f.number == SONDE_SHORT_REPLY && f.length == 0 && f.sonde.counters.bad == 0 && rest_stays(0), "reply buffer of 255 bytes: number 3, nothing counted");
     s.counters.bad = 65535;
-    f = sonde_frame(s, BYTES(17, 3, 0, 0, 0, 1), reply, sizeof reply, volume, WORDS, 0);
+    f = sonde_frame(s, BYTES(17, 3, 0, 0, 0, 1), reply, SONDE_REPLY_BYTES, volume, WORDS, 0, false);
     check(f.number == SONDE_OK && f.length == 0 && f.sonde.counters.bad == 65535 && rest_stays(0), "bad frame: no reply, and the counter stops");
     s.counters.good = 65535;
     s = ask(s, BYTES(17, 0x44, 1), BYTES(17, 0xC4, 1), "another function: code 1");
@@ -116,6 +117,147 @@ int main(void) {
     volume[64 + 6] ^= 1;
     s.sensors[1].setup.active.calibration.time ^= 1;
     check(sonde_audit(s, volume, WORDS).number == SONDE_INVALID, "audit of another last calibration: number 4");
+}
 
+/* A fresh sonde of address 17, and a journal without entries in these words. */
+static Sonde begun(uint16_t *words) {
+    SondeMade made = sonde_begin(sonde_fresh(17).sonde, words, WORDS);
+    check(made.number == SONDE_OK, "begin again");
+    return made.sonde;
+}
+
+static SondeFrame send_ascii(Sonde sonde, const void *frame, size_t n, size_t reply_len) {
+    memset(reply, 0xAA, sizeof reply);
+    return sonde_frame(sonde, frame, n, reply, reply_len, volume, WORDS, 0x12345678, true);
+}
+
+/* Sends n characters and holds the reply to the expected ones, "" for none; the bytes past it stay. */
+static Sonde spell(Sonde sonde, const void *frame, size_t n, const char *expected, const char *what) {
+    size_t due = strlen(expected);
+    SondeFrame f = send_ascii(sonde, frame, n, sizeof reply);
+    check(f.number == SONDE_OK && f.length == due && memcmp(reply, expected, due) == 0 && rest_stays(due), what);
+    return f.sonde;
+}
+
+#define TEXT(characters) characters, sizeof(characters) - 1
+
+/* A body as an ASCII frame; its length. */
+static size_t spelt(char *frame, const uint8_t *body, size_t n) {
+    uint8_t sum = 0;
+    size_t at = 1;
+    frame[0] = ':';
+    for (size_t i = 0; i < n; i++, at += 2) {
+        sum += body[i];
+        sprintf(frame + at, "%02X", body[i]);
+    }
+    return at + (size_t)sprintf(frame + at, "%02X\r\n", (uint8_t)-sum);
+}
+
+/* The calibration again, in characters whose LRC is worked out by hand. */
+static void in_ascii(void) {
+    Sonde s = begun(volume);
+    s = spell(s, TEXT(":110600CDE0003C\r\n"), ":110600CDE0003C\r\n", "ASCII: mode on");
+    s = spell(s, TEXT(":110600CE000219\r\n"), ":110600CE000219\r\n", "ASCII: method: two points");
+    s = spell(s, TEXT(":111000D800020441000000C0\r\n"), ":111000D8000205\r\n", "ASCII: x1 = 8");
+    s = spell(s, TEXT(":111000DA00020441100000AE\r\n"), ":111000DA000203\r\n", "ASCII: y1 = 9");
+    s = spell(s, TEXT(":110600CDE0013B\r\n"), ":110600CDE0013B\r\n", "ASCII: update");
+    s = spell(s, TEXT(":110600CDE0023A\r\n"), ":110600CDE0023A\r\n", "ASCII: mode off");
+    s = spell(s, TEXT(":110300C9000221\r\n"), ":11030412345678D4\r\n", "ASCII: last calibration is the clock");
+    s = spell(s, TEXT(":110300D2000416\r\n"), ":110308000000003F90000015\r\n", "ASCII: offset 0 and slope 1.125");
+    s = spell(s, TEXT(":110325000001C6\r\n"), ":1183026A\r\n", "ASCII: absent register: code 2");
+    s = spell(s, TEXT(":000600CDE0004D\r\n"), "", "ASCII: a write at address 0 gets no reply");
+    s = spell(s, TEXT(":120325000001C5\r\n"), "", "ASCII: another's frame gets no reply");
+    check(s.counters.good == 10 && s.counters.bad == 0 && s.counters.exceptions == 1, "ASCII: 10 good messages, 1 exception");
+    SondeAudit audit = sonde_audit(s, volume, WORDS);
+    check(audit.number == SONDE_OK && audit.entries == 1, "ASCII: audit: 0 and 1 entry");
+
+    s = spell(s, TEXT(":110325000001c6\r\n"), "", "ASCII: a small letter is bad");
+    s = spell(s, TEXT(":1103250000013A\r\n"), "", "ASCII: a sum that isn't complemented is bad");
+    s = spell(s, TEXT("110325000001C6\r\n"), "", "ASCII: no colon is bad");
+    s = spell(s, TEXT(":110325000001C6\n"), "", "ASCII: no CR is bad");
+    s = spell(s, TEXT(":110325000001C6\r\n\r\n"), "", "ASCII: bytes behind LF are bad");
+    s = spell(s, TEXT(":11EF\r\n"), "", "ASCII: one byte with its LRC is bad");
+    s = spell(s, TEXT(":\r\n"), "", "ASCII: no digits are bad");
+    s = spell(s, BYTES(17, 3, 0, 0, 0, 1, 0x86, 0x9A), "", "ASCII: an RTU frame is bad");
+    check(s.counters.good == 10 && s.counters.bad == 8, "ASCII: 8 bad messages");
+
+    char longest[600];
+    uint8_t body[255] = {17, 0x44};
+    check(spelt(longest, body, 254) == 513, "ASCII: the longest frame has 513 characters");
+    s = spell(s, longest, 513, ":11C4012A\r\n", "ASCII: the longest frame: code 1");
+    check(spelt(longest, body, 255) == 515, "ASCII: a longer frame has 515");
+    s = spell(s, longest, 515, "", "ASCII: a longer frame is bad");
+    check(s.counters.good == 11 && s.counters.bad == 9, "ASCII: 11 good and 9 bad messages");
+
+    /* The framing decides on the reply buffer, before any look at the frame. */
+    static const size_t lengths[] = {0, 255, SONDE_REPLY_BYTES, 511, SONDE_ASCII_REPLY_BYTES - 1};
+    for (size_t i = 0; i < sizeof lengths / sizeof *lengths; i++) {
+        SondeFrame good = send_ascii(s, TEXT(":110325000001C6\r\n"), lengths[i]);
+        check(good.number == SONDE_SHORT_REPLY && good.length == 0 && good.sonde.counters.good == 11 && rest_stays(0),
+              "ASCII: reply buffer of up to 512 bytes: number 3, nothing counted");
+        SondeFrame bad = send_ascii(s, TEXT(":"), lengths[i]);
+        check(bad.number == SONDE_SHORT_REPLY && bad.length == 0 && bad.sonde.counters.bad == 9 && rest_stays(0),
+              "ASCII: the same with a bad frame");
+    }
+}
+
+#define SAME(field) (memcmp(&a->field, &b->field, sizeof a->field) == 0)
+
+/* Field by field: the bytes between fields are anything. */
+static bool same_sensor(const SondeSensor *a, const SondeSensor *b) {
+    return SAME(setup.procedure.calibrating) && SAME(setup.procedure.trial) && SAME(setup.procedure.method) && SAME(setup.procedure.points) &&
+           SAME(setup.active) && SAME(setup.parameters.level) && SAME(setup.parameters.parameter1.units) &&
+           SAME(setup.parameters.parameter1.sentinel) && SAME(setup.parameters.parameter2.units) && SAME(setup.parameters.parameter2.sentinel) &&
+           SAME(setup.parameters.parameter3.units) && SAME(setup.parameters.parameter3.sentinel) && SAME(sample.present) && SAME(sample.raw1) &&
+           SAME(sample.raw2);
+}
+
+static bool same_sonde(const Sonde *a, const Sonde *b) {
+    bool same = SAME(address) && SAME(counters);
+    for (int i = 0; i < 4; i++) same = same && same_sensor(&a->sensors[i], &b->sensors[i]);
+    return same;
+}
+
+/* One body in either framing, to sondes and volumes that are the same, leaves them the same, and its replies say the same. */
+static void in_both_framings(void) {
+    static uint16_t other[WORDS];
+    static const struct { uint8_t length, bytes[13]; } bodies[] = {
+        {6, {17, 6, 0, 205, 0xE0, 0x00}},
+        {6, {17, 6, 0, 206, 0, 2}},
+        {11, {17, 16, 0, 216, 0, 2, 4, 0x41, 0, 0, 0}},
+        {6, {17, 6, 0, 205, 0xE0, 0x01}}, /* y1 = 0 makes a slope of 0: out of limits */
+        {11, {17, 16, 0, 218, 0, 2, 4, 0x41, 0x10, 0, 0}},
+        {8, {17, 22, 0, 205, 0, 0, 0xE0, 0x01}},
+        {6, {0, 6, 0, 205, 0xE0, 0x01}},
+        {6, {17, 3, 0, 130, 0, 24}},
+        {6, {0, 3, 0, 130, 0, 24}},
+        {6, {18, 3, 0, 130, 0, 24}},
+        {6, {17, 3, 0x25, 0, 0, 1}},
+        {2, {17, 3}},
+        {3, {17, 0x44, 1}},
+    };
+    memset(volume, 0, sizeof volume);
+    Sonde rtu = begun(volume), ascii = begun(other);
+    for (size_t i = 0; i < sizeof bodies / sizeof *bodies; i++) {
+        uint8_t frame[16], answer[SONDE_REPLY_BYTES];
+        char characters[64], due[600] = "";
+        size_t n = bodies[i].length, spelt_n = spelt(characters, bodies[i].bytes, n), due_n = 0;
+        memcpy(frame, bodies[i].bytes, n);
+        SondeFrame r = sonde_frame(rtu, frame, sealed(frame, n), answer, sizeof answer, volume, WORDS, 1000, false);
+        if (r.length > 0) due_n = spelt(due, answer, r.length - 2u);
+        SondeFrame a = sonde_frame(ascii, (const uint8_t *)characters, spelt_n, reply, sizeof reply, other, WORDS, 1000, true);
+        rtu = r.sonde;
+        ascii = a.sonde;
+        check(r.number == SONDE_OK && a.number == SONDE_OK, "both framings: number 0");
+        check(a.length == due_n && memcmp(reply, due, due_n) == 0 && (r.length == 0 || a.length == 2 * r.length + 1), "both framings: one reply");
+        check(same_sonde(&rtu, &ascii) && memcmp(volume, other, sizeof volume) == 0, "both framings: one sonde and one volume");
+    }
+    check(sonde_audit(ascii, other, WORDS).entries == 2, "both framings: 2 entries");
+}
+
+int main(void) {
+    in_rtu();
+    in_ascii();
+    in_both_framings();
     return failed;
 }

@@ -1,6 +1,7 @@
 /*
  * The stack that the calls take, their arguments and results included. Each call is made on a painted stack of its own, and the paint that is gone
- * is counted: over the life of a sonde whose journal fills up to 1000 entries, with the longest read (24 registers) and a write in between.
+ * is counted: over the life of a sonde whose journal fills up to 1000 entries, with the longest read (24 registers), the longest frame and a bad
+ * one, in RTU and in ASCII.
  *
  *     stack BOUND
  *
@@ -20,8 +21,9 @@ static _Alignas(16) uint8_t stack[1 << 16];
 static ucontext_t host, call;
 
 static uint16_t volume[WORDS];
-static uint8_t frame[SONDE_REPLY_BYTES], reply[SONDE_REPLY_BYTES];
+static uint8_t frame[600], reply[SONDE_ASCII_REPLY_BYTES];
 static size_t frame_len;
+static bool ascii;
 static uint32_t clock_now;
 static Sonde sonde;
 static SondeMade made;
@@ -47,7 +49,10 @@ static void call_fresh(void) { made = sonde_fresh(1); }
 static void call_begin(void) { made = sonde_begin(sonde, volume, WORDS); }
 static void call_power_up(void) { made = sonde_power_up(1, volume, WORDS); }
 static void call_measure(void) { made = sonde_measure(sonde, 1, true, 1000.0f, 20.0f); }
-static void call_frame(void) { answer = sonde_frame(sonde, frame, frame_len, reply, sizeof reply, volume, WORDS, clock_now); }
+static void call_frame(void) {
+    size_t reply_len = ascii ? SONDE_ASCII_REPLY_BYTES : SONDE_REPLY_BYTES;
+    answer = sonde_frame(sonde, frame, frame_len, reply, reply_len, volume, WORDS, clock_now, ascii);
+}
 static void call_audit(void) { audit = sonde_audit(sonde, volume, WORDS); }
 
 enum { NOTHING, FRESH, BEGIN, POWER_UP, MEASURE, FRAME, AUDIT, CALLS };
@@ -75,24 +80,69 @@ static void make(int which) {
     sonde = made.sonde;
 }
 
-/* Sends six bytes and their checksum; `first` is the second byte of the reply: the function, or the function with 0x80. */
-static void ask(const uint8_t *body, uint8_t first) {
+/* The RTU frame of a body. */
+static void seal_rtu(const uint8_t *body, size_t n) {
     uint16_t crc = 0xFFFF;
-    memcpy(frame, body, 6);
-    for (int i = 0; i < 6; i++) {
+    memcpy(frame, body, n);
+    for (size_t i = 0; i < n; i++) {
         crc ^= frame[i];
         for (int bit = 0; bit < 8; bit++) crc = crc & 1 ? (crc >> 1) ^ 0xA001 : crc >> 1;
     }
-    frame[6] = crc & 0xFF;
-    frame[7] = crc >> 8;
-    frame_len = 8;
+    frame[n] = crc & 0xFF;
+    frame[n + 1] = crc >> 8;
+    frame_len = n + 2;
+}
+
+/* The ASCII frame of a body. */
+static void seal_ascii(const uint8_t *body, size_t n) {
+    uint8_t sum = 0;
+    char *at = (char *)frame;
+    *at++ = ':';
+    for (size_t i = 0; i < n; i++) {
+        sum += body[i];
+        at += sprintf(at, "%02X", body[i]);
+    }
+    at += sprintf(at, "%02X\r\n", (uint8_t)-sum);
+    frame_len = (size_t)(at - (char *)frame);
+}
+
+/* Whether the reply's second byte is this: the function, or the function with 0x80. */
+static bool answered(uint8_t function) {
+    char digits[3];
+    sprintf(digits, "%02X", function);
+    return answer.length > 0 && (ascii ? memcmp(reply + 3, digits, 2) == 0 : reply[1] == function);
+}
+
+/* Sends a body in the framing of `ascii`. */
+static void ask(const uint8_t *body, size_t n, uint8_t function) {
+    if (ascii) seal_ascii(body, n);
+    else seal_rtu(body, n);
     measured(FRAME);
-    expect(answer.number == SONDE_OK && answer.length > 0 && reply[1] == first, "a frame's reply");
+    expect(answer.number == SONDE_OK && answered(function), "a frame's reply");
+    sonde = answer.sonde;
+}
+
+/* Sends a frame that breaks its form. */
+static void ask_bad(void) {
+    uint16_t bad = sonde.counters.bad;
+    measured(FRAME);
+    expect(answer.number == SONDE_OK && answer.length == 0 && answer.sonde.counters.bad == bad + 1, "a bad frame");
     sonde = answer.sonde;
 }
 
 static const uint8_t mode_on[] = {1, 6, 0, 205, 0xE0, 0x00}, update[] = {1, 6, 0, 205, 0xE0, 0x01},
-                     longest[] = {1, 3, 0, 130, 0, 24};
+                     longest_read[] = {1, 3, 0, 130, 0, 24};
+static const uint8_t longest[254] = {1, 16, 0, 100, 0, 123, 246}; /* with a byte too many: code 3 */
+
+/* The longest read, the longest frame, and the same with its last digit or byte changed, and with a byte less. */
+static void ask_longest(void) {
+    ask(longest_read, sizeof longest_read, 3);
+    ask(longest, sizeof longest, 0x90);
+    frame[frame_len - (ascii ? 3 : 1)] ^= 1;
+    ask_bad();
+    frame_len--;
+    ask_bad();
+}
 
 int main(int argc, char **argv) {
     size_t bound = argc > 1 ? strtoul(argv[1], NULL, 10) : 0, deepest = 0;
@@ -100,17 +150,24 @@ int main(int argc, char **argv) {
     make(FRESH);
     make(BEGIN);
     make(MEASURE);
-    ask(mode_on, 6);
-    for (clock_now = 1; clock_now <= 1000; clock_now++) ask(update, 6);
-    ask(update, 0x86); /* the journal is full */
-    ask(longest, 3);
+    ask(mode_on, sizeof mode_on, 6);
+    for (clock_now = 1; clock_now <= 1000; clock_now++) {
+        ascii = clock_now % 2 == 0;
+        ask(update, sizeof update, 6);
+    }
+    for (int i = 0; i < 2; i++) {
+        ascii = i == 1;
+        ask(update, sizeof update, 0x86); /* the journal is full */
+        ask_longest();
+    }
     measured(AUDIT);
     expect(audit.number == SONDE_OK && audit.entries == 1000, "the audit of 1000 entries");
     make(MEASURE);
     make(POWER_UP);
-    ask(longest, 3);
-    frame_len = 7; /* a bad frame */
-    measured(FRAME);
+    for (int i = 0; i < 2; i++) {
+        ascii = i == 1;
+        ask_longest();
+    }
     for (int i = 0; i < CALLS; i++) {
         printf("%-15s %5zu\n", calls[i].name, most[i]);
         if (most[i] > deepest) deepest = most[i];

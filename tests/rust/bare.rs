@@ -6,7 +6,7 @@
 use core::error::Error as _;
 use core::ffi::c_int;
 use core::panic::PanicInfo;
-use sonde::{Error, Sonde, REPLY_BYTES};
+use sonde::{Arrival, Error, Sonde, ASCII_REPLY_BYTES};
 
 #[link(name = "c")]
 extern "C" {
@@ -25,24 +25,27 @@ fn stop(_: &PanicInfo) -> ! {
 extern "C" fn rust_eh_personality() {}
 
 /// The map's version, read over a frame from a sonde that was powered up from its journal.
-fn reply(buffer: &mut [u8]) -> Result<&[u8], Error> {
+fn reply<'a>(frame: &[u8], buffer: &'a mut [u8], arrival: Arrival) -> Result<&'a [u8], Error> {
     let mut volume = [0; 88];
     Sonde::fresh(1)?.begin(&mut volume)?;
     let mut sonde = Sonde::power_up(1, &volume)?;
     sonde.measure(1, Some((1000.0, 21.5)))?;
-    sonde.frame(&[1, 3, 0, 0, 0, 1, 0x84, 0x0A], buffer, &mut volume, 0)
+    sonde.frame(frame, buffer, &mut volume, arrival)
+}
+
+fn is_answered() -> bool {
+    let mut buffer = [0; ASCII_REPLY_BYTES];
+    let rtu = reply(&[1, 3, 0, 0, 0, 1, 0x84, 0x0A], &mut buffer, Arrival::rtu(0)) == Ok(&[1, 3, 2, 0, 3, 0xF8, 0x45]);
+    rtu && reply(b":010300000001FB\r\n", &mut buffer, Arrival::ascii(0)) == Ok(b":0103020003F7\r\n")
 }
 
 #[no_mangle]
 pub extern "C" fn main() -> c_int {
     let refused = Sonde::fresh(0).map(|_| ()).unwrap_err();
-    let mut buffer = [0; REPLY_BYTES];
-    match reply(&mut buffer) {
-        Ok([1, 3, 2, 0, 3, 0xF8, 0x45]) if refused == Error::BadAddress && refused.source().is_none() => {
-            let told = b"a host without std was answered\n";
-            // SAFETY: the bytes are valid for their length.
-            (unsafe { write(1, told.as_ptr(), told.len()) } != told.len() as isize).into()
-        }
-        _ => 1,
+    if refused != Error::BadAddress || refused.source().is_some() || !is_answered() {
+        return 1;
     }
+    let told = b"a host without std was answered\n";
+    // SAFETY: the bytes are valid for their length.
+    (unsafe { write(1, told.as_ptr(), told.len()) } != told.len() as isize).into()
 }

@@ -138,6 +138,7 @@ extern "C" {
         volume: *mut u16,
         words: usize,
         clock: u32,
+        ascii: bool,
     ) -> Frame;
     pub fn sonde_audit(sonde: Sonde, volume: *const u16, words: usize) -> Audit;
 }

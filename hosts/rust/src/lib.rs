@@ -4,7 +4,7 @@
 //! anything, allocates or blocks.
 //!
 //! ```
-//! use sonde::{Sonde, REPLY_BYTES};
+//! use sonde::{Arrival, Sonde, REPLY_BYTES};
 //!
 //! let mut volume = vec![0; 112]; // a journal of two calibrations
 //! let mut sonde = Sonde::fresh(1)?;
@@ -13,7 +13,7 @@
 //!
 //! // A technician reads the map's version: function 3, register 0, one register.
 //! let mut buffer = [0; REPLY_BYTES];
-//! let reply = sonde.frame(&[1, 3, 0, 0, 0, 1, 0x84, 0x0A], &mut buffer, &mut volume, 0)?;
+//! let reply = sonde.frame(&[1, 3, 0, 0, 0, 1, 0x84, 0x0A], &mut buffer, &mut volume, Arrival::rtu(0))?;
 //! assert_eq!(reply, [1, 3, 2, 0, 3, 0xF8, 0x45]);
 //!
 //! // After a power cut the journal gives the calibration back.
@@ -42,8 +42,10 @@ use core::fmt;
 
 pub mod ffi;
 
-/// The least reply buffer; a reply is never longer.
+/// The least reply buffer for an RTU frame; a reply is never longer.
 pub const REPLY_BYTES: usize = 256;
+/// The least reply buffer for an ASCII frame; the longest reply has 511 characters.
+pub const ASCII_REPLY_BYTES: usize = 513;
 /// The least volume: a journal of one calibration.
 pub const LEAST_WORDS: usize = 88;
 /// Words beyond these are never used: a journal of 1000 calibrations.
@@ -64,7 +66,7 @@ pub enum Error {
     BadAddress = 1,
     /// Begin: fewer than [`LEAST_WORDS`] words.
     ShortVolume = 2,
-    /// Frame: the reply buffer has fewer than [`REPLY_BYTES`] bytes.
+    /// Frame: the reply buffer has fewer bytes than [`Framing::reply_bytes`] of its framing.
     ShortReply = 3,
     /// The volume is invalid, or the calibrations in force aren't the volume's, bit for bit.
     Invalid = 4,
@@ -79,7 +81,7 @@ impl fmt::Display for Error {
         f.write_str(match self {
             Error::BadAddress => "the address is not 1 to 247",
             Error::ShortVolume => "the volume has fewer than 88 words",
-            Error::ShortReply => "the reply buffer has fewer than 256 bytes",
+            Error::ShortReply => "the reply buffer has fewer than 256 bytes, or 513 for ASCII",
             Error::Invalid => "the volume is damaged, or is not the one of this sonde",
             Error::NoSensor => "the sensor is not 1 to 4",
             Error::NotFinite => "a raw value is not finite",
@@ -100,6 +102,51 @@ fn done(number: u8) -> Result<(), Error> {
         5 => Err(Error::NoSensor),
         6 => Err(Error::NotFinite),
         _ => panic!("the library gave the number {number}, which this crate doesn't know"),
+    }
+}
+
+/// How a frame's bytes carry a request.
+#[derive(Clone, Copy, Debug, PartialEq, Eq, Hash)]
+pub enum Framing {
+    /// The request's bytes, then their CRC-16.
+    Rtu,
+    /// A colon, the request's bytes and their LRC in capital hexadecimal digits, CR, LF.
+    Ascii,
+}
+
+impl Framing {
+    /// The least reply buffer.
+    pub const fn reply_bytes(self) -> usize {
+        match self {
+            Framing::Rtu => REPLY_BYTES,
+            Framing::Ascii => ASCII_REPLY_BYTES,
+        }
+    }
+}
+
+/// When and how a frame came.
+#[derive(Clone, Copy, Debug, PartialEq, Eq, Hash)]
+pub struct Arrival {
+    /// Whole seconds.
+    pub clock: u32,
+    pub framing: Framing,
+}
+
+impl Arrival {
+    /// An RTU frame at this clock.
+    pub const fn rtu(clock: u32) -> Arrival {
+        Arrival {
+            clock,
+            framing: Framing::Rtu,
+        }
+    }
+
+    /// An ASCII frame at this clock.
+    pub const fn ascii(clock: u32) -> Arrival {
+        Arrival {
+            clock,
+            framing: Framing::Ascii,
+        }
     }
 }
 
@@ -166,11 +213,11 @@ impl Sonde {
         done(made.number)
     }
 
-    /// One Modbus RTU frame, whole and with its checksum, at this clock (whole seconds). Hands back the reply to send, empty for none.
-    /// The volume changes by an accepted calibration alone: write it to safe storage before the reply is sent.
+    /// One Modbus frame, whole: RTU with its CRC-16, or ASCII from the colon to LF. Hands back the reply to send, in the same framing, empty for
+    /// none. The volume changes by an accepted calibration alone: write it to safe storage before the reply is sent.
     ///
     /// ```
-    /// use sonde::{Error, Sonde, REPLY_BYTES};
+    /// use sonde::{Arrival, Error, Sonde, ASCII_REPLY_BYTES, REPLY_BYTES};
     ///
     /// let mut volume = [0; 88];
     /// let mut sonde = Sonde::fresh(1)?;
@@ -178,17 +225,23 @@ impl Sonde {
     /// let mut buffer = [0; REPLY_BYTES];
     ///
     /// // A register that isn't in the map is answered by exception 2.
-    /// let reply = sonde.frame(&[1, 3, 0x25, 0, 0, 1, 0x8F, 0x06], &mut buffer, &mut volume, 0)?;
+    /// let absent = [1, 3, 0x25, 0, 0, 1, 0x8F, 0x06];
+    /// let reply = sonde.frame(&absent, &mut buffer, &mut volume, Arrival::rtu(0))?;
     /// assert_eq!(reply, [1, 0x83, 2, 0xC0, 0xF1]);
     ///
     /// // A frame with a wrong checksum is counted and gets no reply.
-    /// assert!(sonde.frame(&[1, 3, 0, 0, 0, 1, 0, 0], &mut buffer, &mut volume, 0)?.is_empty());
+    /// assert!(sonde.frame(&[1, 3, 0, 0, 0, 1, 0, 0], &mut buffer, &mut volume, Arrival::rtu(0))?.is_empty());
     ///
-    /// let short = sonde.frame(&[1, 3, 0, 0, 0, 1, 0x84, 0x0A], &mut buffer[1..], &mut volume, 0);
+    /// let short = sonde.frame(&absent, &mut buffer[1..], &mut volume, Arrival::rtu(0));
     /// assert_eq!(short, Err(Error::ShortReply));
+    ///
+    /// // The same request in characters.
+    /// let mut buffer = [0; ASCII_REPLY_BYTES];
+    /// let reply = sonde.frame(b":010325000001D6\r\n", &mut buffer, &mut volume, Arrival::ascii(0))?;
+    /// assert_eq!(reply, b":0183027A\r\n");
     /// # Ok::<(), Error>(())
     /// ```
-    pub fn frame<'a>(&mut self, frame: &[u8], reply: &'a mut [u8], volume: &mut [u16], clock: u32) -> Result<&'a [u8], Error> {
+    pub fn frame<'a>(&mut self, frame: &[u8], reply: &'a mut [u8], volume: &mut [u16], arrival: Arrival) -> Result<&'a [u8], Error> {
         // SAFETY: the slices are valid for their lengths, lent for the call, and can't overlap.
         let answer = unsafe {
             ffi::sonde_frame(
@@ -199,7 +252,8 @@ impl Sonde {
                 reply.len(),
                 volume.as_mut_ptr(),
                 volume.len(),
-                clock,
+                arrival.clock,
+                arrival.framing == Framing::Ascii,
             )
         };
         self.0 = answer.sonde;

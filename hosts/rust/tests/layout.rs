@@ -206,6 +206,7 @@ fn registers(sonde: ffi::Sonde, start: u16, count: u16) -> Vec<u16> {
             volume.as_mut_ptr(),
             volume.len(),
             0,
+            false,
         )
     };
     assert_eq!(
