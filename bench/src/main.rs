@@ -113,10 +113,15 @@ fn main() {
         })
         .collect();
     let of = |name| results[rows.iter().position(|row| row.name == name).expect("a row")];
-    let (long, short) = (of(rows::LONG), of(rows::SHORT));
     let less = |long: Sides, short: Sides| -> Sides { std::array::from_fn(|i| Some(long[i]? - short[i]?)) };
-    let checksum = less(long.0, short.0);
-    print("checksum, each byte", checksum, less(long.1, short.1), SUMMED);
+    let each_byte = |name, long, short| {
+        let (long, short): ((Sides, Sides), (Sides, Sides)) = (of(long), of(short));
+        let times = less(long.0, short.0);
+        print(name, times, less(long.1, short.1), SUMMED);
+        times
+    };
+    let checksum = each_byte("checksum, each byte", rows::LONG, rows::SHORT);
+    each_byte("ASCII: decoding and checksum, each byte", rows::ASCII_LONG, rows::ASCII_SHORT);
     let speeds = NAMES
         .iter()
         .zip(checksum)

@@ -4,6 +4,7 @@ use crate::sides::Side;
 
 pub enum Work {
     Frame(Vec<u8>),
+    Ascii(Vec<u8>),
     /// Accepted calibrations, `UPDATES` to a journal.
     Update,
     Audit,
@@ -25,8 +26,19 @@ fn framed(body: &[u8]) -> Vec<u8> {
     [body, &twin::crc(body).to_le_bytes()].concat()
 }
 
+fn ascii(body: &[u8]) -> Vec<u8> {
+    let mut frame = body.to_vec();
+    frame.resize(2 * body.len() + 5, 0);
+    twin::Framing::Ascii.seal(&mut frame, body.len());
+    frame
+}
+
+fn body(function: u8, first: u16, second: u16) -> Vec<u8> {
+    [&[1, function][..], &first.to_be_bytes(), &second.to_be_bytes()].concat()
+}
+
 fn words(function: u8, first: u16, second: u16) -> Vec<u8> {
-    framed(&[&[1, function][..], &first.to_be_bytes(), &second.to_be_bytes()].concat())
+    framed(&body(function, first, second))
 }
 
 fn row(name: impl Into<String>, entries: usize, work: Work, libmodbus: bool) -> Row {
@@ -38,26 +50,39 @@ fn row(name: impl Into<String>, entries: usize, work: Work, libmodbus: bool) -> 
     }
 }
 
-/// A write of 123 registers whose checksum is wrong: 255 bytes, all but two of them summed.
-fn long_bad() -> Vec<u8> {
-    let mut frame = framed(&[&[1, 16, 0, 0, 0, 123, 246][..], &[0x5A; 246]].concat());
-    frame[254] ^= 0xFF;
+/// A write of 123 registers: 253 bytes.
+fn long_body() -> Vec<u8> {
+    [&[1, 16, 0, 0, 0, 123, 246][..], &[0x5A; 246]].concat()
+}
+
+/// The same with one register: 9 bytes.
+const SHORT_BODY: [u8; 9] = [1, 16, 0, 0, 0, 1, 2, 0x5A, 0x5A];
+
+/// A frame whose CRC is wrong.
+fn bad(body: &[u8]) -> Vec<u8> {
+    let mut frame = framed(body);
+    frame[body.len() + 1] ^= 0xFF;
     frame
 }
 
-/// The same with one register: 11 bytes.
-fn short_bad() -> Vec<u8> {
-    let mut frame = framed(&[1, 16, 0, 0, 0, 1, 2, 0x5A, 0x5A]);
-    frame[10] ^= 0xFF;
+/// A frame whose LRC is wrong: the last of its digits is another.
+fn bad_ascii(body: &[u8]) -> Vec<u8> {
+    let mut frame = ascii(body);
+    let digit = &mut frame[2 * body.len() + 2];
+    *digit = if *digit == b'0' { b'1' } else { b'0' };
     frame
 }
 
-/// Bytes that `long_bad` sums and `short_bad` doesn't.
+/// Bytes that `long_body` has and `SHORT_BODY` hasn't.
 pub const SUMMED: f64 = 244.0;
 
 /// The rows whose difference is the checksum of `SUMMED` bytes.
 pub const LONG: &str = "long bad frame";
 pub const SHORT: &str = "short bad frame";
+
+/// The rows whose difference is the decoding and the checksum of `SUMMED` bytes.
+pub const ASCII_LONG: &str = "ASCII: long bad frame";
+pub const ASCII_SHORT: &str = "ASCII: short bad frame";
 
 pub fn rows() -> Vec<Row> {
     let mut rows = vec![
@@ -75,8 +100,8 @@ pub fn rows() -> Vec<Row> {
         row("update, accepted", 0, Work::Update, true),
         row("refused: absent register", 0, Work::Frame(words(3, 0x2500, 1)), true),
         row("another's frame", 0, Work::Frame(framed(&[2, 3, 0, 0, 0, 1])), true),
-        row(SHORT, 0, Work::Frame(short_bad()), true),
-        row(LONG, 0, Work::Frame(long_bad()), true),
+        row(SHORT, 0, Work::Frame(bad(&SHORT_BODY)), true),
+        row(LONG, 0, Work::Frame(bad(&long_body())), true),
     ];
     for entries in [0, 1, 10, 100, 1000] {
         rows.push(row(format!("audit, {entries} entries"), entries, Work::Audit, false));
@@ -89,18 +114,31 @@ pub fn rows() -> Vec<Row> {
             false,
         ));
     }
+    rows.extend(ascii_rows());
     rows
+}
+
+/// The last rows, so that the others keep their numbers.
+fn ascii_rows() -> [Row; 5] {
+    let frames = [
+        ("ASCII: read of 1 register", ascii(&body(3, 0, 1))),
+        ("ASCII: read of 24 registers, the longest", ascii(&body(3, 130, 24))),
+        ("ASCII: write of one word", ascii(&body(6, 133, 2))),
+        (ASCII_SHORT, bad_ascii(&SHORT_BODY)),
+        (ASCII_LONG, bad_ascii(&long_body())),
+    ];
+    frames.map(|(name, frame)| row(name, 0, Work::Ascii(frame), false))
 }
 
 impl Row {
     /// A journal with the row's entries, on the four sensors in turn, and sensors in mode.
     pub fn prepare(&self, side: &mut dyn Side) {
         for sensor in 1..=4 {
-            side.frame(&words(6, 100 * sensor + 5, 0xE000));
+            side.rtu(&words(6, 100 * sensor + 5, 0xE000));
         }
         for entry in 0..self.entries {
             let sensor = entry as u16 % 4 + 1;
-            side.frame(&words(6, 100 * sensor + 5, 0xE001));
+            side.rtu(&words(6, 100 * sensor + 5, 0xE001));
         }
     }
 
@@ -108,7 +146,10 @@ impl Row {
     pub fn repeat(&self, side: &mut dyn Side, calls: usize) {
         match &self.work {
             Work::Frame(frame) => (0..calls).for_each(|_| {
-                std::hint::black_box(side.frame(std::hint::black_box(frame)));
+                std::hint::black_box(side.rtu(std::hint::black_box(frame)));
+            }),
+            Work::Ascii(frame) => (0..calls).for_each(|_| {
+                std::hint::black_box(side.ascii(std::hint::black_box(frame)));
             }),
             Work::Audit => (0..calls).for_each(|_| {
                 std::hint::black_box(side.audit());
@@ -119,7 +160,7 @@ impl Row {
                     if call % UPDATES == 0 {
                         side.begin();
                     }
-                    std::hint::black_box(side.frame(&update));
+                    std::hint::black_box(side.rtu(&update));
                 }
             }
         }

@@ -1,13 +1,16 @@
 //! Who answers: the proved library, the second implementation, libmodbus. Each keeps its own sonde and volume.
 
-use sonde::Sonde;
+use sonde::{Arrival, Sonde};
+use twin::Framing;
 
 /// At this clock.
 const CLOCK: u32 = 1_700_000_000;
 
 pub trait Side {
-    /// A frame; the length of the reply.
-    fn frame(&mut self, frame: &[u8]) -> usize;
+    /// An RTU frame; the length of the reply.
+    fn rtu(&mut self, frame: &[u8]) -> usize;
+    /// An ASCII frame; the length of the reply.
+    fn ascii(&mut self, frame: &[u8]) -> usize;
     /// A journal without entries.
     fn begin(&mut self);
     /// The entries in use.
@@ -18,6 +21,7 @@ pub struct Library {
     sonde: Sonde,
     volume: Vec<u16>,
     reply: [u8; sonde::REPLY_BYTES],
+    ascii_reply: [u8; sonde::ASCII_REPLY_BYTES],
 }
 
 impl Library {
@@ -26,6 +30,7 @@ impl Library {
             sonde: Sonde::fresh(1).expect("an address"),
             volume: vec![0; sonde::MOST_WORDS],
             reply: [0; sonde::REPLY_BYTES],
+            ascii_reply: [0; sonde::ASCII_REPLY_BYTES],
         };
         side.begin();
         side
@@ -33,8 +38,15 @@ impl Library {
 }
 
 impl Side for Library {
-    fn frame(&mut self, frame: &[u8]) -> usize {
-        let reply = self.sonde.frame(frame, &mut self.reply, &mut self.volume, CLOCK);
+    fn rtu(&mut self, frame: &[u8]) -> usize {
+        let reply = self.sonde.frame(frame, &mut self.reply, &mut self.volume, Arrival::rtu(CLOCK));
+        reply.expect("no number").len()
+    }
+
+    fn ascii(&mut self, frame: &[u8]) -> usize {
+        let reply = self
+            .sonde
+            .frame(frame, &mut self.ascii_reply, &mut self.volume, Arrival::ascii(CLOCK));
         reply.expect("no number").len()
     }
 
@@ -51,6 +63,7 @@ pub struct Twin {
     sonde: twin::Sonde,
     volume: Vec<u16>,
     reply: [u8; sonde::REPLY_BYTES],
+    ascii_reply: [u8; sonde::ASCII_REPLY_BYTES],
 }
 
 impl Twin {
@@ -59,6 +72,7 @@ impl Twin {
             sonde: twin::fresh(1).1,
             volume: vec![0; sonde::MOST_WORDS],
             reply: [0; sonde::REPLY_BYTES],
+            ascii_reply: [0; sonde::ASCII_REPLY_BYTES],
         };
         side.begin();
         side
@@ -66,8 +80,15 @@ impl Twin {
 }
 
 impl Side for Twin {
-    fn frame(&mut self, frame: &[u8]) -> usize {
-        let (number, length) = twin::frame(&mut self.sonde, frame, &mut self.reply, &mut self.volume, CLOCK);
+    fn rtu(&mut self, frame: &[u8]) -> usize {
+        let (number, length) = twin::frame(&mut self.sonde, frame, &mut self.reply, &mut self.volume, CLOCK, Framing::Rtu);
+        assert_eq!(number, 0);
+        length.into()
+    }
+
+    fn ascii(&mut self, frame: &[u8]) -> usize {
+        let reply = &mut self.ascii_reply;
+        let (number, length) = twin::frame(&mut self.sonde, frame, reply, &mut self.volume, CLOCK, Framing::Ascii);
         assert_eq!(number, 0);
         length.into()
     }
@@ -83,7 +104,7 @@ impl Side for Twin {
     }
 }
 
-/// libmodbus' server on 500 registers in memory. It has no journal.
+/// libmodbus' server on 500 registers in memory. It has no journal and no ASCII.
 #[cfg(libmodbus)]
 pub struct LibModbus;
 
@@ -94,9 +115,13 @@ extern "C" {
 
 #[cfg(libmodbus)]
 impl Side for LibModbus {
-    fn frame(&mut self, frame: &[u8]) -> usize {
+    fn rtu(&mut self, frame: &[u8]) -> usize {
         // SAFETY: the slice is valid for its length, and one thread calls.
         unsafe { line_frame(frame.as_ptr(), frame.len()) }
+    }
+
+    fn ascii(&mut self, _frame: &[u8]) -> usize {
+        unreachable!("libmodbus takes no part in rows of ASCII")
     }
 
     fn begin(&mut self) {}

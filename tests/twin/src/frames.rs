@@ -1,14 +1,12 @@
-//! Modbus RTU frames: how one is judged, what a write does, and the replies.
+//! The bodies of frames: how a request is judged, what a write does, and the replies. A reply is written as a body at the beginning of the
+//! reply buffer, and its function gives the body's length.
 
 use crate::calibration::{candidate, listed_method, within_limits, Coefficients, DIRECT, SENSORS};
-use crate::crc::crc;
 use crate::floats::{join, split};
 use crate::map::{locate, Access, Field, Place, ENTER, LEAVE, LEVEL_IDS, PARAMETERS, UPDATE};
 use crate::readings::reading;
 use crate::state::{Settings, Sonde};
 
-pub const FRAME_LEAST: usize = 4;
-pub const FRAME_MOST: usize = 256;
 pub const BROADCAST: u8 = 0;
 
 pub const READ: u8 = 3;
@@ -27,11 +25,9 @@ pub const UNLISTED: u8 = 0x84;
 pub const OUT_OF_LIMITS: u8 = 0x97;
 pub const JOURNAL_FULL: u8 = 0xC0;
 
-/// What becomes of a frame.
+/// What becomes of a request.
 #[derive(Clone, Copy, Debug)]
 pub enum Verdict {
-    /// Too short, too long or a wrong checksum.
-    Bad,
     /// Another's address.
     Foreign,
     /// A read at address 0: counted, nothing else.
@@ -56,15 +52,8 @@ pub enum Change {
     Update(Coefficients),
 }
 
-/// Judges a frame by the settings as they are; `full` is whether the journal has no room.
-pub fn judge(address: u8, settings: &[Settings; SENSORS], full: bool, frame: &[u8]) -> Verdict {
-    if !(FRAME_LEAST..=FRAME_MOST).contains(&frame.len()) {
-        return Verdict::Bad;
-    }
-    let (body, checksum) = frame.split_at(frame.len() - 2);
-    if crc(body).to_le_bytes() != checksum {
-        return Verdict::Bad;
-    }
+/// Judges a request by the settings as they are; `full` is whether the journal has no room.
+pub fn judge(address: u8, settings: &[Settings; SENSORS], full: bool, body: &[u8]) -> Verdict {
     let (to, function) = (body[0], body[1]);
     if to != BROADCAST && to != address {
         return Verdict::Foreign;
@@ -280,8 +269,8 @@ impl View<'_> {
         }
     }
 
-    /// The reply to a read of registers that are all present; its length. Goes field by field, so that a reading is worked out once.
-    pub fn reply_read(&self, start: u16, count: u16, reply: &mut [u8]) -> u16 {
+    /// The reply to a read of registers that are all present. Goes field by field, so that a reading is worked out once.
+    pub fn reply_read(&self, start: u16, count: u16, reply: &mut [u8]) -> usize {
         reply[0] = self.sonde.address;
         reply[1] = READ;
         reply[2] = 2 * count as u8;
@@ -297,25 +286,18 @@ impl View<'_> {
                 register += 1;
             }
         }
-        seal(reply, 3 + 2 * usize::from(count))
+        3 + 2 * usize::from(count)
     }
 }
 
 /// The reply to an accepted write: 16 answers with start and count, 6 and 22 echo the request.
-pub fn reply_write(frame: &[u8], reply: &mut [u8]) -> u16 {
-    let body = if frame[1] == WRITE_MANY { 6 } else { frame.len() - 2 };
-    reply[..body].copy_from_slice(&frame[..body]);
-    seal(reply, body)
+pub fn reply_write(body: &[u8], reply: &mut [u8]) -> usize {
+    let length = if body[1] == WRITE_MANY { 6 } else { body.len() };
+    reply[..length].copy_from_slice(&body[..length]);
+    length
 }
 
-pub fn reply_exception(address: u8, function: u8, code: u8, reply: &mut [u8]) -> u16 {
+pub fn reply_exception(address: u8, function: u8, code: u8, reply: &mut [u8]) -> usize {
     reply[..3].copy_from_slice(&[address, function | 0x80, code]);
-    seal(reply, 3)
-}
-
-/// Puts the checksum after the body, low byte first; gives the reply's length.
-fn seal(reply: &mut [u8], body: usize) -> u16 {
-    let checksum = crc(&reply[..body]).to_le_bytes();
-    reply[body..body + 2].copy_from_slice(&checksum);
-    body as u16 + 2
+    3
 }

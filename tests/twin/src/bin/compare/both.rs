@@ -1,10 +1,12 @@
 //! One call on both implementations, and all that is compared after it.
 
+use crate::breach;
 use crate::calls::{hex, Answer, Call, Request};
 use crate::convert::{difference, from_library, to_library};
 use crate::library;
 use crate::random::Random;
 use sonde::ffi;
+use twin::framing::{Framing, Room};
 use twin::Sonde;
 
 /// The sonde and the volume, of either implementation.
@@ -41,7 +43,7 @@ const RUNS: [(u16, u16); 17] = [
 
 /// Registers up to the end of the last run.
 pub const IMAGE: usize = 438;
-pub const REPLY_MOST: usize = 300;
+pub const REPLY_MOST: usize = 600;
 
 impl Both {
     /// Fresh sondes of address 1, and a volume of random words.
@@ -189,11 +191,18 @@ impl Comparison {
         random.fill_bytes(&mut self.poison);
         self.twin_reply.copy_from_slice(&self.poison);
         self.library_reply.copy_from_slice(&self.poison);
-        let (reply, words, clock) = (request.reply, request.words, request.clock);
+        let Request {
+            framing,
+            ref bytes,
+            reply,
+            words,
+            clock,
+            ..
+        } = *request;
         let volume = &mut both.twin_volume[..words];
-        let (number, length) = twin::frame(&mut both.twin, &request.bytes, &mut self.twin_reply[..reply], volume, clock);
+        let (number, length) = twin::frame(&mut both.twin, bytes, &mut self.twin_reply[..reply], volume, clock, framing);
         let volume = &mut both.library_volume[..words];
-        let library = library::frame(both.library, &request.bytes, &mut self.library_reply[..reply], volume, clock);
+        let library = library::frame(both.library, bytes, &mut self.library_reply[..reply], volume, clock, framing);
         both.library = library.sonde;
         let answer = agree(Answer::new(number, length), Answer::new(library.number, library.length))?;
         differ_bytes(&format!("the reply buffer ({answer:?})"), &self.twin_reply, &self.library_reply)?;
@@ -202,6 +211,54 @@ impl Comparison {
             return Err(format!("both have written past the reply ({answer:?})"));
         }
         Ok(answer)
+    }
+
+    /// The one fact on framings: sends what a frame carries in either framing to copies of both, each with a reply buffer that is long enough,
+    /// and compares number, sonde, volume and the reply's body. Whether the frame is a good one, so that it carries something.
+    pub fn in_both_framings(&mut self, both: &Both, request: &Request, random: &mut Random) -> Result<bool, String> {
+        let mut room = Room::None;
+        let Some(body) = request.framing.body(&request.bytes, &mut room) else {
+            return Ok(false);
+        };
+        let (mut after_rtu, mut after_ascii) = (both.clone(), both.clone());
+        let (rtu_answer, rtu_reply) = self.in_framing(&mut after_rtu, request, body, Framing::Rtu, random)?;
+        let (ascii_answer, ascii_reply) = self.in_framing(&mut after_ascii, request, body, Framing::Ascii, random)?;
+        let due = rtu_reply
+            .split_last_chunk::<2>()
+            .map_or(Vec::new(), |(body, _)| breach::ascii(body));
+        if rtu_answer.number != ascii_answer.number || ascii_reply != due {
+            return Err(format!(
+                "the framings' replies differ\n  RTU:   {rtu_answer:?} {}\n  ASCII: {ascii_answer:?} \"{}\"",
+                hex(&rtu_reply),
+                ascii_reply.escape_ascii()
+            ));
+        }
+        for (twin, library) in [(&after_rtu, &after_rtu), (&after_ascii, &after_ascii), (&after_rtu, &after_ascii)] {
+            differ_sonde("after the two framings the sonde", &twin.twin, &library.library)?;
+            differ_volume(&twin.twin_volume, &library.library_volume)?;
+        }
+        Ok(true)
+    }
+
+    /// The answer and the reply to a body in this framing.
+    fn in_framing(
+        &mut self,
+        both: &mut Both,
+        request: &Request,
+        body: &[u8],
+        framing: Framing,
+        random: &mut Random,
+    ) -> Result<(Answer, Vec<u8>), String> {
+        let sent = Request {
+            framing,
+            bytes: breach::sealed(framing, body),
+            reply: random.between(framing.reply_least(), REPLY_MOST),
+            ..*request
+        };
+        let answer = self
+            .frame(both, &sent, random)
+            .map_err(|difference| format!("in {framing:?}: {difference}"))?;
+        Ok((answer, self.library_reply[..answer.length.into()].to_vec()))
     }
 
     /// Reads every register on copies of both, and compares replies, sondes and volumes after it.
@@ -213,9 +270,11 @@ impl Comparison {
         self.library_words.extend(&both.library_volume);
         let (clock, words) = (random.long(), both.lent);
         for (start, count) in RUNS {
-            let bytes = read_request(twin.address, start, count);
-            let (number, length) = twin::frame(&mut twin, &bytes, &mut self.twin_reply, &mut self.twin_words[..words], clock);
-            let answer = library::frame(library, &bytes, &mut self.library_reply, &mut self.library_words[..words], clock);
+            let (bytes, framing) = (read_request(twin.address, start, count), Framing::Rtu);
+            let volume = &mut self.twin_words[..words];
+            let (number, length) = twin::frame(&mut twin, &bytes, &mut self.twin_reply, volume, clock, framing);
+            let volume = &mut self.library_words[..words];
+            let answer = library::frame(library, &bytes, &mut self.library_reply, volume, clock, framing);
             library = answer.sonde;
             let failed = |difference| format!("read back, {count} registers from {start}: {difference}");
             agree(Answer::new(number, length), Answer::new(answer.number, answer.length)).map_err(failed)?;

@@ -1,6 +1,8 @@
 //! A call with its arguments, as both implementations get it.
 
+use crate::breach::Breach;
 use std::fmt;
+use twin::Framing;
 
 #[derive(Clone, Copy, Debug, PartialEq, Eq, PartialOrd, Ord)]
 pub enum Kind {
@@ -37,10 +39,13 @@ pub enum Call {
     },
 }
 
-/// A frame, and the bytes of the reply buffer.
+/// A frame with the framing that the host names, and the bytes of the reply buffer.
 #[derive(Clone)]
 pub struct Request {
+    pub framing: Framing,
     pub bytes: Vec<u8>,
+    /// How the bytes break the framing's form; those of `None` don't.
+    pub breach: Option<Breach>,
     pub reply: usize,
     pub words: usize,
     pub clock: u32,
@@ -77,21 +82,32 @@ impl fmt::Display for Call {
                     "measure(sensor {sensor}, present {present}, {first:e} = {first_bits:#010X}, {second:e} = {second_bits:#010X})"
                 )
             }
-            Call::Frame(Request {
-                bytes,
-                reply,
-                words,
-                clock,
-            }) => {
-                write!(
-                    f,
-                    "frame({} bytes {}, reply buffer {reply}, {words} words, clock {clock})",
-                    bytes.len(),
-                    hex(bytes)
-                )
-            }
+            Call::Frame(request) => write!(f, "{request}"),
             Call::Audit { words } => write!(f, "audit({words} words)"),
         }
+    }
+}
+
+impl fmt::Display for Request {
+    fn fmt(&self, f: &mut fmt::Formatter) -> fmt::Result {
+        let Request {
+            framing,
+            bytes,
+            breach,
+            reply,
+            words,
+            clock,
+        } = self;
+        let shown = match framing {
+            Framing::Rtu => hex(bytes),
+            Framing::Ascii => format!("\"{}\"", bytes.escape_ascii()),
+        };
+        let form = breach.map_or("good".to_string(), |breach| format!("{breach:?}"));
+        write!(
+            f,
+            "frame({framing:?}, {form}, {} bytes {shown}, reply buffer {reply}, {words} words, clock {clock})",
+            bytes.len()
+        )
     }
 }
 

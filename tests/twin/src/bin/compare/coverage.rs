@@ -1,13 +1,16 @@
 //! What the compared calls have met, and what they have to have met.
 
 use crate::both::{Both, IMAGE};
+use crate::breach::{Breach, OF_ASCII};
 use crate::calls::{Answer, Call, Kind, Request};
 use crate::corrupt::{Corruption, OF_SONDE, OF_VOLUME};
+use crate::generate::{LONGEST_READ, REPLIES};
 use std::collections::BTreeMap;
 use std::num::FpCategory;
 use twin::calibration::{candidate, within_limits, LEVEL, LIMITS, ONE_POINT, TWO_POINTS};
 use twin::floats::join;
-use twin::frames::{judge, Change, Verdict, BROADCAST, FRAME_LEAST, FRAME_MOST, JOURNAL_FULL, OUT_OF_LIMITS};
+use twin::frames::{judge, Change, Verdict, BROADCAST, JOURNAL_FULL, OUT_OF_LIMITS};
+use twin::framing::{Framing, Room};
 use twin::map::{locate, Field, LEVEL_IDS, LEVEL_PARAMETER, PARAMETERS};
 use twin::readings::{GOOD, NOT_FINITE};
 use twin::state::{Settings, Sonde};
@@ -32,6 +35,15 @@ pub enum Written {
     SignallingNan,
 }
 
+/// What a frame is, as far as it tells by itself.
+#[derive(Clone, Copy, Debug, PartialEq, Eq, PartialOrd, Ord)]
+pub enum Sort {
+    Bad,
+    Foreign,
+    Broadcast,
+    Own,
+}
+
 /// Why a candidate has no second coefficient within limits.
 #[derive(Clone, Copy, Debug, PartialEq, Eq, PartialOrd, Ord)]
 pub enum Division {
@@ -49,24 +61,50 @@ pub enum Item {
         call: Kind,
         number: u8,
     },
+    Frame {
+        framing: Framing,
+        number: u8,
+    },
+    /// A reply buffer at or beside the least lengths.
+    Reply {
+        framing: Framing,
+        bytes: usize,
+        number: u8,
+    },
+    ShortReply {
+        framing: Framing,
+        sort: Sort,
+    },
+    /// A bad RTU frame.
     TooShort,
     TooLong,
     WrongChecksum,
-    Foreign,
-    ReadAtZero,
+    NamedRtu,
+    BadAscii(Breach),
+    /// The body of a good frame, where it is the shortest or the longest.
+    Body {
+        framing: Framing,
+        bytes: usize,
+    },
+    Foreign(Framing),
+    ReadAtZero(Framing),
     Code {
+        framing: Framing,
         code: u8,
         broadcast: bool,
     },
     Accepted {
+        framing: Framing,
         function: u8,
         broadcast: bool,
     },
+    LongestRead(Framing),
     Update {
         sensor: usize,
         method: u16,
     },
     UpdateBy {
+        framing: Framing,
         function: u8,
         broadcast: bool,
     },
@@ -162,6 +200,9 @@ impl Coverage {
             call: call.kind(),
             number: answer.number,
         });
+        if let Call::Frame(request) = call {
+            self.note_reply(before, request, answer.number);
+        }
         if answer.number != 0 {
             return;
         }
@@ -181,59 +222,96 @@ impl Coverage {
         }
     }
 
+    /// How a frame's number goes with its framing and its reply buffer.
+    fn note_reply(&mut self, before: &Before, request: &Request, number: u8) {
+        let (framing, bytes) = (request.framing, request.reply);
+        self.note(Item::Frame { framing, number });
+        if number != 4 && REPLIES.contains(&bytes) {
+            self.note(Item::Reply { framing, bytes, number });
+        }
+        if number == 3 {
+            let sort = sort(before.sonde.address, framing.body(&request.bytes, &mut Room::None));
+            self.note(Item::ShortReply { framing, sort });
+        }
+    }
+
     fn note_frame(&mut self, before: &Before, request: &Request) {
-        let bytes = &request.bytes;
+        let framing = request.framing;
+        let mut room = Room::None;
+        let Some(body) = framing.body(&request.bytes, &mut room) else {
+            return self.note_bad(before, request);
+        };
+        if [2, 254].contains(&body.len()) {
+            self.note(Item::Body {
+                framing,
+                bytes: body.len(),
+            });
+        }
         let capacity = capacity(request.words);
-        let verdict = judge(before.sonde.address, &before.sonde.settings, before.in_use == capacity, bytes);
+        let verdict = judge(before.sonde.address, &before.sonde.settings, before.in_use == capacity, body);
         self.note_counters(before, &verdict);
-        let broadcast = bytes.first() == Some(&BROADCAST);
+        let broadcast = body[0] == BROADCAST;
+        let accepted = Item::Accepted {
+            framing,
+            function: body[1],
+            broadcast,
+        };
         match verdict {
-            Verdict::Bad if bytes.len() < FRAME_LEAST => self.note(Item::TooShort),
-            Verdict::Bad if bytes.len() > FRAME_MOST => self.note(Item::TooLong),
-            Verdict::Bad => self.note(Item::WrongChecksum),
-            Verdict::Foreign => self.note(Item::Foreign),
-            Verdict::Ignored => self.note(Item::ReadAtZero),
-            Verdict::Read { .. } => self.note(Item::Accepted {
-                function: bytes[1],
-                broadcast,
-            }),
+            Verdict::Foreign => self.note(Item::Foreign(framing)),
+            Verdict::Ignored => self.note(Item::ReadAtZero(framing)),
+            Verdict::Read { start, count } => {
+                self.note(accepted);
+                if [start, count] == LONGEST_READ {
+                    self.note(Item::LongestRead(framing));
+                }
+            }
             Verdict::Refused(code) => {
-                self.note(Item::Code { code, broadcast });
-                self.note_refused(before, code, capacity, bytes);
+                self.note(Item::Code { framing, code, broadcast });
+                self.note_refused(before, code, capacity, body);
             }
             Verdict::Write { sensor, change } => {
-                self.note(Item::Accepted {
-                    function: bytes[1],
-                    broadcast,
-                });
+                self.note(accepted);
                 if let Change::Update(_) = change {
-                    self.note_update(before, sensor, capacity, bytes);
+                    self.note(Item::UpdateBy {
+                        framing,
+                        function: body[1],
+                        broadcast,
+                    });
+                    self.note_update(before, sensor, capacity);
                 }
             }
         }
-        self.note_written(bytes);
+        self.note_written(body);
+    }
+
+    fn note_bad(&mut self, before: &Before, request: &Request) {
+        if before.sonde.counters.bad == u16::MAX {
+            self.note(Item::Saturated(Counter::Bad));
+        }
+        self.note(match (request.framing, request.breach) {
+            (Framing::Ascii, Some(breach)) => Item::BadAscii(breach),
+            (_, Some(Breach::NamedRtu)) => Item::NamedRtu,
+            _ if request.bytes.len() < 4 => Item::TooShort,
+            _ if request.bytes.len() > 256 => Item::TooLong,
+            _ => Item::WrongChecksum,
+        });
     }
 
     fn note_counters(&mut self, before: &Before, verdict: &Verdict) {
         let counters = before.sonde.counters;
         match verdict {
-            Verdict::Bad if counters.bad == u16::MAX => self.note(Item::Saturated(Counter::Bad)),
-            Verdict::Bad | Verdict::Foreign => {}
+            Verdict::Foreign => {}
             Verdict::Refused(_) if counters.exceptions == u16::MAX => self.note(Item::Saturated(Counter::Exceptions)),
             _ if counters.good == u16::MAX => self.note(Item::Saturated(Counter::Good)),
             _ => {}
         }
     }
 
-    fn note_update(&mut self, before: &Before, sensor: usize, capacity: usize, bytes: &[u8]) {
+    fn note_update(&mut self, before: &Before, sensor: usize, capacity: usize) {
         let settings = &before.sonde.settings[sensor];
         self.note(Item::Update {
             sensor,
             method: settings.method,
-        });
-        self.note(Item::UpdateBy {
-            function: bytes[1],
-            broadcast: bytes[0] == BROADCAST,
         });
         if before.in_use + 1 == capacity {
             self.note(Item::Full { capacity });
@@ -252,12 +330,12 @@ impl Coverage {
         }
     }
 
-    fn note_refused(&mut self, before: &Before, code: u8, capacity: usize, bytes: &[u8]) {
-        let command = |bytes: &[u8]| usize::from(bytes[2]) << 8 | usize::from(bytes[3]);
+    fn note_refused(&mut self, before: &Before, code: u8, capacity: usize, body: &[u8]) {
+        let command = |body: &[u8]| usize::from(body[2]) << 8 | usize::from(body[3]);
         match code {
             JOURNAL_FULL => self.note(Item::RefusedFull { capacity }),
             OUT_OF_LIMITS => {
-                let sensor = command(bytes) / 100 - 1;
+                let sensor = command(body) / 100 - 1;
                 self.note_out_of_limits(sensor, &before.sonde.settings[sensor]);
             }
             _ => {}
@@ -303,11 +381,11 @@ impl Coverage {
     }
 
     /// The class of a float that a frame writes to a whole field.
-    fn note_written(&mut self, bytes: &[u8]) {
-        if bytes.len() != 13 || bytes[1] != 16 {
+    fn note_written(&mut self, body: &[u8]) {
+        if body.len() != 11 || body[1] != 16 {
             return;
         }
-        let word = |at: usize| u16::from_be_bytes([bytes[at], bytes[at + 1]]);
+        let word = |at: usize| u16::from_be_bytes([body[at], body[at + 1]]);
         let float_field = |field| matches!(field, Field::Coefficient(_) | Field::Point(_) | Field::Sentinel(_));
         if locate(word(2)).is_some_and(|place| place.start == word(2) && float_field(place.field)) {
             self.note(Item::Written(class(f32::from_bits(join(word(7), word(9))))));
@@ -347,6 +425,27 @@ impl Coverage {
         let missing = required().into_iter().filter(|item| !self.0.contains_key(item)).collect();
         (table, missing)
     }
+
+    /// What was met in ASCII: frames, calibrations and bad frames of each kind.
+    pub fn ascii(&self) -> String {
+        use Framing::Ascii;
+        let sum = |of: fn(&Item) -> bool| -> u64 { self.0.iter().filter(|(item, _)| of(item)).map(|(_, count)| count).sum() };
+        let frames = sum(|item| matches!(item, Item::Frame { framing: Ascii, .. }));
+        let calibrations = sum(|item| matches!(item, Item::UpdateBy { framing: Ascii, .. }));
+        let bad = sum(|item| matches!(item, Item::BadAscii(_)));
+        let of_each = OF_ASCII.map(|breach| self.0.get(&Item::BadAscii(breach)).copied().unwrap_or(0));
+        let (kinds, least) = (of_each.len(), of_each.into_iter().min().unwrap_or(0));
+        format!("{frames} frames in ASCII with {calibrations} calibrations and {bad} bad ones (at least {least} of each of {kinds} kinds)")
+    }
+}
+
+fn sort(address: u8, body: Option<&[u8]>) -> Sort {
+    match body {
+        None => Sort::Bad,
+        Some([BROADCAST, ..]) => Sort::Broadcast,
+        Some([to, ..]) if *to == address => Sort::Own,
+        Some(_) => Sort::Foreign,
+    }
 }
 
 fn class(value: f32) -> Written {
@@ -374,20 +473,23 @@ fn division(settings: &Settings, coefficients: [f32; 3]) -> Option<Division> {
     }
 }
 
+const FRAMINGS: [Framing; 2] = [Framing::Rtu, Framing::Ascii];
+
 /// What a run has to meet.
 fn required() -> Vec<Item> {
     let mut items = vec![
         Item::TooShort,
         Item::TooLong,
         Item::WrongChecksum,
-        Item::Foreign,
-        Item::ReadAtZero,
+        Item::NamedRtu,
         Item::PowerUpWithEntries,
         Item::BeginAgain,
         Item::BeginCalibrating,
         Item::AuditWithEntries,
     ];
     items.extend(required_answers());
+    items.extend(FRAMINGS.into_iter().flat_map(required_frames));
+    items.extend(OF_ASCII.map(Item::BadAscii));
     items.extend(required_updates());
     items.extend(required_readings());
     items.extend(required_corruptions());
@@ -438,15 +540,6 @@ fn required_answers() -> Vec<Item> {
         .iter()
         .flat_map(|(call, numbers)| numbers.iter().map(|&number| Item::Number { call: *call, number }))
         .collect();
-    for broadcast in [false, true] {
-        items.extend([1, 3, 2, 0x80, 0xC2, 0x92, 0x84, 0x97, 0xC0].map(|code| Item::Code { code, broadcast }));
-        items.extend([6, 16, 22].map(|function| Item::Accepted { function, broadcast }));
-        items.extend([6, 16, 22].map(|function| Item::UpdateBy { function, broadcast }));
-    }
-    items.push(Item::Accepted {
-        function: 3,
-        broadcast: false,
-    });
     items.extend([Counter::Good, Counter::Bad, Counter::Exceptions].map(Item::Saturated));
     use Written::*;
     items.extend(
@@ -462,6 +555,40 @@ fn required_answers() -> Vec<Item> {
         ]
         .map(Item::Written),
     );
+    items
+}
+
+/// All that frames of either framing have to meet.
+fn required_frames(framing: Framing) -> Vec<Item> {
+    let mut items = vec![Item::Foreign(framing), Item::ReadAtZero(framing), Item::LongestRead(framing)];
+    items.extend([0, 3, 4].map(|number| Item::Frame { framing, number }));
+    items.extend(REPLIES.map(|bytes| Item::Reply {
+        framing,
+        bytes,
+        number: if bytes < framing.reply_least() { 3 } else { 0 },
+    }));
+    items.extend([Sort::Bad, Sort::Foreign, Sort::Broadcast, Sort::Own].map(|sort| Item::ShortReply { framing, sort }));
+    items.extend([2, 254].map(|bytes| Item::Body { framing, bytes }));
+    for broadcast in [false, true] {
+        items.extend([1, 3, 2, 0x80, 0xC2, 0x92, 0x84, 0x97, 0xC0].map(|code| Item::Code { framing, code, broadcast }));
+        for function in [6, 16, 22] {
+            items.push(Item::Accepted {
+                framing,
+                function,
+                broadcast,
+            });
+            items.push(Item::UpdateBy {
+                framing,
+                function,
+                broadcast,
+            });
+        }
+    }
+    items.push(Item::Accepted {
+        framing,
+        function: 3,
+        broadcast: false,
+    });
     items
 }
 

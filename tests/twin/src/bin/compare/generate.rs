@@ -1,6 +1,7 @@
-//! Calls that are likely to find a mistake: mostly valid ones, near every edge of document 01, then spoilt ones.
+//! Calls that are likely to find a mistake: mostly valid ones, near every edge of documents 01 and 02, then spoilt ones.
 
 use crate::both::Both;
+use crate::breach::{self, broken, Breach, OF_ASCII};
 use crate::calls::{Call, Request};
 use crate::random::Random;
 use crate::values;
@@ -11,6 +12,13 @@ use twin::frames::{MASK, READ, WRITE_MANY, WRITE_ONE};
 use twin::map::{locate, Access, Field, Place, ENTER, LEAVE, LEVEL_IDS, PARAMETERS, UPDATE};
 use twin::state::{valid_address, Sonde};
 use twin::volume::{capacity, ENTRY_WORDS, HEADER_WORDS};
+use twin::Framing;
+
+/// Reply buffers at and beside the least lengths of both framings.
+pub const REPLIES: [usize; 8] = [255, 256, 257, 511, 512, 513, 514, 600];
+
+/// Start and count of the longest run of registers.
+pub const LONGEST_READ: [u16; 2] = [130, 24];
 
 pub struct Generator {
     pub random: Random,
@@ -147,31 +155,55 @@ impl Generator {
         }
     }
 
-    /// A frame with a fit reply buffer, seldom a short one.
+    /// A frame in either framing with a fit reply buffer, seldom a short one.
     pub fn frame(&mut self, both: &Both) -> Call {
-        let body = self.body();
-        let bytes = self.seal(both.twin.address, body);
-        let reply = if self.random.chance(1) {
-            self.random.pick(&[255, 255, 128, 1, 0])
-        } else {
-            self.random.pick(&[256, 256, 257, 300])
+        let mut body = vec![self.frame_address(both.twin.address)];
+        body.extend(self.body());
+        let framing = self.framing();
+        let (bytes, breach) = match framing {
+            Framing::Rtu => self.seal_rtu(&body),
+            Framing::Ascii => self.seal_ascii(&body),
         };
         let any = self.random.long();
-        let clock = self.random.pick(&[0, 1, u32::MAX, 0xFFFF, 0x1_0000, any, any, any]);
         Call::Frame(Request {
+            framing,
             bytes,
-            reply,
+            breach,
+            reply: self.reply(framing),
             words: self.words(both),
-            clock,
+            clock: self.random.pick(&[0, 1, u32::MAX, 0xFFFF, 0x1_0000, any, any, any]),
         })
     }
 
-    /// A frame that writes a command register.
-    pub fn command(&mut self, address: u8, register: u16, command: u16) -> Vec<u8> {
-        let mut bytes = vec![address];
-        bytes.extend(self.write_word(register, command));
-        bytes.extend(twin::crc(&bytes).to_le_bytes());
-        bytes
+    /// A frame that writes a command register, in either framing.
+    pub fn command(&mut self, address: u8, register: u16, command: u16, words: usize) -> Call {
+        let mut body = vec![address];
+        body.extend(self.write_word(register, command));
+        let framing = self.framing();
+        Call::Frame(Request {
+            framing,
+            bytes: breach::sealed(framing, &body),
+            breach: None,
+            reply: framing.reply_least(),
+            words,
+            clock: self.random.long(),
+        })
+    }
+
+    fn framing(&mut self) -> Framing {
+        self.random.pick(&[Framing::Rtu, Framing::Ascii])
+    }
+
+    /// A reply buffer; both framings' least lengths and their neighbours are tried in either.
+    fn reply(&mut self, framing: Framing) -> usize {
+        let random = &mut self.random;
+        match framing {
+            _ if random.chance(1) => random.pick(&REPLIES),
+            Framing::Rtu if random.chance(1) => random.pick(&[255, 255, 128, 1, 0]),
+            Framing::Ascii if random.chance(1) => random.pick(&[512, 512, 511, 257, 256, 255, 1, 0]),
+            Framing::Rtu => random.pick(&[256, 256, 257, 300]),
+            Framing::Ascii => random.pick(&[513, 513, 514, 600]),
+        }
     }
 
     /// Function and data of a frame.
@@ -195,31 +227,48 @@ impl Generator {
         }
     }
 
-    /// Puts address and checksum to a body; seldom wrong ones.
-    fn seal(&mut self, own: u8, body: Vec<u8>) -> Vec<u8> {
+    /// The sonde's own address, seldom another's or 0.
+    fn frame_address(&mut self, own: u8) -> u8 {
         let random = &mut self.random;
-        let address = match random.below(100) {
+        match random.below(100) {
             0..=2 => random.pick(&[248, 255, own.wrapping_add(1), own.wrapping_sub(1), own ^ 0x80]),
             3..=15 => 0,
             _ => own,
-        };
-        let mut bytes = vec![address];
-        bytes.extend(body);
-        let mut checksum = twin::crc(&bytes).to_le_bytes();
+        }
+    }
+
+    /// Puts a checksum to a body; seldom a wrong one. Also how that breaks the form.
+    fn seal_rtu(&mut self, body: &[u8]) -> (Vec<u8>, Option<Breach>) {
+        let mut bytes = breach::rtu(body);
+        let end = bytes.len();
+        let random = &mut self.random;
         match random.below(100) {
-            0 => checksum.reverse(),
-            1 => checksum[random.below(2)] ^= 1 << random.below(8),
-            _ => {}
+            0 => bytes.swap(end - 2, end - 1),
+            1 => bytes[end - 1 - random.below(2)] ^= 1 << random.below(8),
+            2 => bytes.truncate(random.below(5)),
+            3 => return (breach::ascii(body), Some(Breach::NamedRtu)),
+            _ => return (bytes, length_breach(body)),
         }
-        bytes.extend(checksum);
-        if random.chance(1) {
-            bytes.truncate(random.below(5));
+        (bytes, Some(Breach::Spoilt))
+    }
+
+    /// Puts a body into characters; seldom such that they break the form, and how.
+    fn seal_ascii(&mut self, body: &[u8]) -> (Vec<u8>, Option<Breach>) {
+        if let Some(breach) = length_breach(body) {
+            return (breach::ascii(body), Some(breach));
         }
-        bytes
+        if !self.random.chance(8) {
+            return (breach::ascii(body), None);
+        }
+        let breach = self.random.pick(&OF_ASCII);
+        (broken(breach, body, &mut self.random), Some(breach))
     }
 
     /// A read of registers that are all there; it may begin and end inside a field.
     fn read_present(&mut self) -> Vec<u8> {
+        if self.random.chance(5) {
+            return words_body(READ, &LONGEST_READ);
+        }
         let place = self.random.pick(&self.fields);
         let start = place.start + self.random.below(usize::from(place.field.words())) as u16;
         let run = (start..).take_while(|&register| locate(register).is_some()).count();
@@ -488,6 +537,15 @@ impl Generator {
             ]),
             _ => [x1, offset + slope * x1, x2, offset + slope * x2],
         }
+    }
+}
+
+/// A body's length alone can make its frame a bad one.
+fn length_breach(body: &[u8]) -> Option<Breach> {
+    match body.len() {
+        0 | 1 => Some(Breach::OneByte),
+        2..=254 => None,
+        _ => Some(Breach::Long),
     }
 }
 

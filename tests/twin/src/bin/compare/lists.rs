@@ -16,6 +16,8 @@ use twin::volume::{replay, CAPACITY_MOST, ENTRY_WORDS, HEADER_WORDS};
 
 /// Words of a volume of full capacity.
 const MOST_WORDS: usize = HEADER_WORDS + ENTRY_WORDS * CAPACITY_MOST;
+/// So many of a hundred frames are also sent in both framings, to copies.
+const IN_BOTH_PERCENT: usize = 10;
 /// One list in so many fills a journal of 1000 entries; the first of all does.
 const LONG_EVERY: u64 = 10_000;
 
@@ -39,6 +41,8 @@ pub struct Lists {
     pub calls: u64,
     /// Volumes whose fault was held to the verdict on them.
     pub volumes: u64,
+    /// Requests that were sent in both framings.
+    pub in_both_framings: u64,
     words: Vec<u16>,
 }
 
@@ -50,6 +54,7 @@ impl Lists {
             coverage: Coverage::default(),
             calls: 0,
             volumes: 0,
+            in_both_framings: 0,
             words: Vec::new(),
         }
     }
@@ -81,16 +86,24 @@ impl Lists {
     fn step(&mut self, both: &mut Both, call: &Call, random: &mut Random) -> Result<Answer, String> {
         self.calls += 1;
         let before = Before::new(both);
-        let answer = self
-            .comparison
-            .run(both, call, random)
-            .map_err(|difference| format!("{call}\n{difference}"))?;
-        self.coverage.note_call(&before, call, answer);
+        let done = self.compared_step(both, &before, call, random);
+        done.map_err(|difference| format!("{call}\n{difference}"))
+    }
+
+    fn compared_step(&mut self, both: &mut Both, before: &Before, call: &Call, random: &mut Random) -> Result<Answer, String> {
+        if let (Call::Frame(request), true) = (call, random.chance(IN_BOTH_PERCENT)) {
+            let compared = self.comparison.in_both_framings(both, request, random)?;
+            self.in_both_framings += u64::from(compared);
+        }
+        let answer = self.comparison.run(both, call, random)?;
+        if let Call::Frame(request) = call {
+            hold_form(before, both, request, answer)?;
+        }
+        self.coverage.note_call(before, call, answer);
         if self.comparison.agreed {
             self.coverage.note_registers(&both.twin, &self.comparison.registers);
         }
-        self.hold_fault_after(both, call, answer)
-            .map_err(|difference| format!("{call}\n{difference}"))?;
+        self.hold_fault_after(both, call, answer)?;
         Ok(answer)
     }
 
@@ -302,7 +315,7 @@ fn follow(book: &mut Book, call: &Call) {
         Call::Fresh { address } if makes_sonde(call) => *book = Book::fresh(*address),
         Call::Begin { words } => book.begin(*words),
         Call::PowerUp { address, .. } => book.power_up(*address),
-        Call::Frame(request) => book.frame(&request.bytes, request.reply, request.clock),
+        Call::Frame(request) => book.frame(&request.bytes, request.reply, request.clock, request.framing),
         Call::Fresh { .. } | Call::Measure { .. } | Call::Audit { .. } => {}
     }
 }
@@ -313,13 +326,22 @@ fn small_volume(random: &mut Random) -> usize {
 }
 
 fn long_command(generator: &mut Generator, register: u16, command: u16) -> Call {
-    let bytes = generator.command(1, register, command);
-    Call::Frame(Request {
-        bytes,
-        reply: 256,
-        words: MOST_WORDS,
-        clock: generator.random.long(),
-    })
+    generator.command(1, register, command, MOST_WORDS)
+}
+
+/// A frame that was made to be good isn't counted bad, and one that was made to break its form is: both implementations alike could be wrong.
+fn hold_form(before: &Before, both: &Both, request: &Request, answer: Answer) -> Result<(), String> {
+    let due = match request.breach {
+        None => 0,
+        Some(breach) if breach.certain() => 1,
+        Some(_) => return Ok(()),
+    };
+    let (was, is) = (before.sonde.counters.bad, both.twin.counters.bad);
+    let due = if answer.number == 0 { was.saturating_add(due) } else { was };
+    if is != due {
+        return Err(format!("both count {was} bad frames before it and {is} after it, not {due}"));
+    }
+    Ok(())
 }
 
 /// Counters near the number at which they stop.
@@ -348,13 +370,7 @@ fn call_on_wrong(both: &Both, corruption: Corruption, generator: &mut Generator)
             .iter()
             .position(|settings| settings.trial[2].to_bits() != 0)
             .unwrap_or(0) as u16;
-        let bytes = generator.command(both.twin.address, 100 * sensor + 105, UPDATE);
-        return Call::Frame(Request {
-            bytes,
-            reply: 256,
-            words,
-            clock: 0,
-        });
+        return generator.command(both.twin.address, 100 * sensor + 105, UPDATE, words);
     }
     match generator.random.below(10) {
         0..=1 => Call::Begin { words },
