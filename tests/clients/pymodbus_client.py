@@ -1,4 +1,4 @@
-"""pymodbus before|after DEVICE: one line for each step, exit status 1 where one went wrong.
+"""pymodbus rtu|ascii before|after DEVICE: one line for each step, exit status 1 where one went wrong.
 
 pymodbus hands back an ExceptionResponse with the code, whatever it is. Its text names codes 1 to 11 (IllegalAddress), and says None for any other,
 such as 0x92.
@@ -11,8 +11,10 @@ from pymodbus.client import ModbusSerialClient
 from pymodbus.constants import Endian
 from pymodbus.payload import BinaryPayloadBuilder, BinaryPayloadDecoder
 from pymodbus.pdu import ExceptionResponse
+from pymodbus.transaction import ModbusAsciiFramer, ModbusRtuFramer
 
 ADDRESS = 17
+FRAMERS = {"rtu": ModbusRtuFramer, "ascii": ModbusAsciiFramer}
 
 
 def f32(value):
@@ -21,8 +23,8 @@ def f32(value):
 
 
 class Client:
-    def __init__(self, device):
-        self.line = ModbusSerialClient(device, baudrate=19200, parity="N", stopbits=2, timeout=5)
+    def __init__(self, framing, device):
+        self.line = ModbusSerialClient(device, framer=FRAMERS[framing], baudrate=19200, parity="N", stopbits=2, timeout=5)
         self.asked = self.refusals = 0
         self.failed = not self.line.connect()
 
@@ -160,8 +162,8 @@ class Client:
         self.reads(8, [3], "entries in use")
 
 
-def main(phase, device):
-    client = Client(device)
+def main(framing, phase, device):
+    client = Client(framing, device)
     steps = {
         "before": (client.map, client.writing, client.refusing, client.calibration),
         "after": (client.powered_up, client.full),

@@ -26,12 +26,35 @@ pub enum Command {
     Serve(Options),
 }
 
-/// With a parity 1 stop bit, without one 2: a character has 11 bits in any case, as the standard wants.
+/// With a parity 1 stop bit, without one 2, as the standard wants.
 #[derive(Clone, Copy, Debug, PartialEq)]
 pub enum Parity {
     None,
     Even,
     Odd,
+}
+
+#[derive(Clone, Copy, Debug, PartialEq)]
+pub enum DataBits {
+    Seven,
+    Eight,
+}
+
+/// A character on the wire.
+#[derive(Clone, Copy, Debug, PartialEq)]
+pub struct Character {
+    pub data_bits: DataBits,
+    pub parity: Parity,
+}
+
+impl Character {
+    /// Its bits: the start bit, the data bits, and two for parity and stop.
+    pub fn bits(self) -> u32 {
+        match self.data_bits {
+            DataBits::Seven => 10,
+            DataBits::Eight => 11,
+        }
+    }
 }
 
 /// What the RTS line is while an RS-485 driver sends.
@@ -47,8 +70,12 @@ pub struct Options {
     pub device: Option<PathBuf>,
     /// Another name of the pseudo-terminal.
     pub link: Option<PathBuf>,
+    /// Modbus ASCII, else RTU.
+    pub ascii: bool,
     pub speed: u32,
     pub parity: Parity,
+    /// None: by the framing.
+    pub data_bits: Option<DataBits>,
     /// None: by the speed.
     pub silence: Option<Duration>,
     /// The line hands back what is sent.
@@ -73,8 +100,10 @@ impl Default for Options {
         Options {
             device: None,
             link: None,
+            ascii: false,
             speed: 19200,
             parity: Parity::Even,
+            data_bits: None,
             silence: None,
             echo: false,
             rs485: None,
@@ -112,6 +141,7 @@ pub fn parse(words: impl IntoIterator<Item = OsString>) -> Result<Command, Strin
                     .then(|| Command::Check(file.into()))
                     .ok_or("--check FILE stands alone".to_string());
             }
+            "--ascii" => options.ascii = true,
             "--echo" => options.echo = true,
             "--verbose" => options.verbose = true,
             _ => options.set(name, rest.next())?,
@@ -130,6 +160,7 @@ impl Options {
             "--link" => self.link = Some(value()?.into()),
             "--speed" => self.speed = speed(value()?)?,
             "--parity" => self.parity = parity(value()?)?,
+            "--data-bits" => self.data_bits = Some(data_bits(value()?)?),
             "--silence" => self.silence = Some(Duration::from_millis(number(name, value()?, 1..=10_000)?)),
             "--rs485" => self.rs485 = Some(rts(value()?)?),
             "--address" => self.address = number(name, value()?, 1..=247)? as u8,
@@ -144,12 +175,36 @@ impl Options {
         Ok(())
     }
 
+    /// The standard's character, but for what was given: RTU has 8 data bits, ASCII 7.
+    pub fn character(&self) -> Character {
+        let standard = if self.ascii { DataBits::Seven } else { DataBits::Eight };
+        Character {
+            data_bits: self.data_bits.unwrap_or(standard),
+            parity: self.parity,
+        }
+    }
+
     /// Whether the options fit together.
     fn fit(&self) -> Result<(), String> {
-        match self.device {
-            Some(_) if self.link.is_some() => Err("--link names a pseudo-terminal, and --device is none".to_string()),
-            None if self.rs485.is_some() => Err("--rs485 is for a --device".to_string()),
-            _ => Ok(()),
+        let on_device = self.device.is_some();
+        let misfits = [
+            (
+                on_device && self.link.is_some(),
+                "--link names a pseudo-terminal, and --device is none",
+            ),
+            (!on_device && self.rs485.is_some(), "--rs485 is for a --device"),
+            (
+                !self.ascii && self.data_bits == Some(DataBits::Seven),
+                "--data-bits 7 is for --ascii, and Modbus RTU has 8",
+            ),
+            (
+                self.ascii && self.silence.is_some(),
+                "--silence is for Modbus RTU, and --ascii ends a frame by LF alone",
+            ),
+        ];
+        match misfits.into_iter().find(|(misfit, _)| *misfit) {
+            Some((_, message)) => Err(message.to_string()),
+            None => Ok(()),
         }
     }
 }
@@ -176,6 +231,14 @@ fn parity(text: &str) -> Result<Parity, String> {
         "even" => Ok(Parity::Even),
         "odd" => Ok(Parity::Odd),
         _ => Err(format!("--parity {text}: it is none, even or odd")),
+    }
+}
+
+fn data_bits(text: &str) -> Result<DataBits, String> {
+    match text {
+        "7" => Ok(DataBits::Seven),
+        "8" => Ok(DataBits::Eight),
+        _ => Err(format!("--data-bits {text}: it is 7 or 8")),
     }
 }
 

@@ -55,6 +55,26 @@ fn options_of_lines_and_volumes() {
 }
 
 #[test]
+fn the_character_is_the_standards_but_for_what_is_given() {
+    use DataBits::{Eight, Seven};
+    for (words, data_bits, parity, bits) in [
+        ("", Eight, Parity::Even, 11),
+        ("--parity none", Eight, Parity::None, 11),
+        ("--data-bits 8", Eight, Parity::Even, 11),
+        ("--ascii", Seven, Parity::Even, 10),
+        ("--ascii --parity none", Seven, Parity::None, 10),
+        ("--ascii --data-bits 7 --parity odd", Seven, Parity::Odd, 10),
+        ("--data-bits 7 --ascii", Seven, Parity::Even, 10),
+        ("--ascii --data-bits 8", Eight, Parity::Even, 11),
+    ] {
+        let o = options(words);
+        assert_eq!(o.ascii, words.contains("--ascii"));
+        assert_eq!(o.character(), Character { data_bits, parity }, "{words}");
+        assert_eq!(o.character().bits(), bits, "{words}");
+    }
+}
+
+#[test]
 fn check_stands_alone() {
     assert!(matches!(parsed("--check v"), Ok(Command::Check(path)) if path.as_os_str() == "v"));
     for (words, message) in [
@@ -92,6 +112,14 @@ fn wrong_words_are_named() {
         ("--clock 4294967296", "from 0 to 4294967295"),
         ("--clock -1", "from 0 to 4294967295"),
         ("--raw 5=1", "--raw 5=1: the sensors are 1 to 4"),
+        ("--data-bits", "--data-bits wants a value"),
+        ("--ascii --data-bits 6", "--data-bits 6: it is 7 or 8"),
+        ("--data-bits 7", "--data-bits 7 is for --ascii, and Modbus RTU has 8"),
+        (
+            "--ascii --silence 20",
+            "--silence is for Modbus RTU, and --ascii ends a frame by LF alone",
+        ),
+        ("--silence 20 --ascii", "--silence is for Modbus RTU"),
         ("--device d --rs485 1", "--rs485 1: it is high or low"),
         ("--rs485 high", "--rs485 is for a --device"),
         ("--link l --device d", "--link names a pseudo-terminal, and --device is none"),

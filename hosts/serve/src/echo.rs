@@ -1,6 +1,7 @@
 //! What a line hands back. A two-wire adapter hears what it sends, and the reply to a write can be its request, byte for byte: taken for a
 //! request, an update's echo would be journalled again and again.
 
+use sonde::Framing;
 use std::collections::VecDeque;
 use std::ops::Range;
 use std::time::{Duration, Instant};
@@ -17,32 +18,37 @@ const MOST: usize = 2048;
 /// The bytes that have come in since a reply was sent.
 pub struct Echo<'a> {
     sent: &'a [u8],
+    framing: Framing,
     heard: Vec<u8>,
-    /// Where in `heard` bytes came after a silence.
-    gaps: Vec<usize>,
+    /// Where in `heard` a frame may begin: after a silence (RTU), at a colon (ASCII).
+    starts: Vec<usize>,
 }
 
 #[derive(Clone, Copy, Debug, PartialEq)]
 pub enum Heard {
     Nothing,
-    /// All that was sent, or the beginning of it and then a silence.
+    /// All that was sent, or the beginning of it and then no more or another frame.
     Echo,
     Other,
 }
 
 impl Echo<'_> {
-    pub fn of(sent: &[u8]) -> Echo<'_> {
+    pub fn of(sent: &[u8], framing: Framing) -> Echo<'_> {
         Echo {
             sent,
+            framing,
             heard: Vec::new(),
-            gaps: Vec::new(),
+            starts: Vec::new(),
         }
     }
 
     pub fn push(&mut self, bytes: &[u8], after_silence: bool) {
-        if after_silence {
-            self.gaps.push(self.heard.len());
-        }
+        let begins = |(place, byte): (usize, &u8)| match self.framing {
+            Framing::Rtu => after_silence && place == 0,
+            Framing::Ascii => *byte == b':',
+        };
+        let places = bytes.iter().enumerate().filter(|place| begins(*place));
+        self.starts.extend(places.map(|(place, _)| self.heard.len() + place));
         self.heard.extend_from_slice(bytes);
     }
 
@@ -66,14 +72,14 @@ impl Echo<'_> {
         !self.heard.is_empty() && self.sent.starts_with(&self.heard)
     }
 
-    /// The length of an echo that was cut short: it ends with what was heard, or before a silence.
+    /// The length of an echo that was cut short: it ends with what was heard, or where another frame begins.
     fn cut(&self) -> usize {
         let same = self.heard.iter().zip(self.sent).take_while(|(heard, sent)| heard == sent).count();
-        let ends = self.gaps.iter().copied().chain([self.heard.len()]);
+        let ends = self.starts.iter().copied().chain([self.heard.len()]);
         ends.filter(|&end| end <= same).max().unwrap_or(0)
     }
 
-    /// What it was, and the bytes that aren't part of it, in parts where it or a silence stood between them.
+    /// What it was, and the bytes that aren't part of it, in parts: it stood between them, or the next begins a frame.
     pub fn end(self) -> (Heard, Vec<Vec<u8>>) {
         let echo = match self.found() {
             Some(start) => start..start + self.sent.len(),
@@ -88,9 +94,9 @@ impl Echo<'_> {
         (heard, [self.parts(before), self.parts(after)].concat())
     }
 
-    /// The bytes of a range, cut where a silence was.
+    /// The bytes of a range, cut where a frame may begin.
     fn parts(&self, range: Range<usize>) -> Vec<Vec<u8>> {
-        let inside = self.gaps.iter().copied().filter(|gap| range.contains(gap));
+        let inside = self.starts.iter().copied().filter(|start| range.contains(start));
         let ends = inside.chain([range.end]);
         let mut start = range.start;
         let parts = ends.map(|end| self.heard[std::mem::replace(&mut start, end)..end].to_vec());
@@ -114,7 +120,7 @@ pub enum Verdict {
 /// Replies that are remembered: more than can be on their way back at a time.
 const REMEMBERED: usize = 4;
 
-/// Tells clients from a line that hands replies back late.
+/// Tells clients from a line that hands replies back late. Frames and replies are the bytes that they carry, whatever the framing.
 #[derive(Default)]
 pub struct Suspicion {
     /// The last replies, with the time at which their last bit was sent.
@@ -126,8 +132,8 @@ pub struct Suspicion {
 }
 
 impl Suspicion {
-    pub fn replied(&mut self, reply: &[u8], sent: Instant) {
-        self.replies.push_back((reply.to_vec(), sent));
+    pub fn replied(&mut self, reply: Vec<u8>, sent: Instant) {
+        self.replies.push_back((reply, sent));
         if self.replies.len() > REMEMBERED {
             self.replies.pop_front();
         }

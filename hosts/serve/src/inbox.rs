@@ -1,54 +1,54 @@
-//! Frames as they come in: cut by silence, or kept from while a reply was sent.
+//! Frames as they come in, in order: from the line, or from while a reply was sent.
 
-use crate::framing::Framer;
+use crate::framing::{Frame, Framer};
 use crate::line::{Line, PATIENCE};
 use crate::sys::Event;
-use std::collections::VecDeque;
+use sonde::Framing;
 use std::fs::File;
-use std::time::Instant;
 
-#[derive(Default)]
 pub struct Inbox {
-    /// What came in while a reply was sent. A silence has ended each part but the last.
-    parts: VecDeque<Vec<u8>>,
     framer: Framer,
     /// A reply was sent that a client may not have read.
     replied: bool,
 }
 
 impl Inbox {
-    /// What came in while a reply was sent.
+    pub fn new(framing: Framing) -> Inbox {
+        Inbox {
+            framer: Framer::new(framing),
+            replied: false,
+        }
+    }
+
+    /// What came in while a reply was sent. A silence has ended each part but the last.
     pub fn put(&mut self, parts: Vec<Vec<u8>>) {
-        self.parts.extend(parts);
+        for part in parts {
+            self.framer.fall_silent();
+            self.framer.push(&part);
+        }
         self.replied = true;
     }
 
-    /// The next frame, and when it began; none once `stop` can be read.
-    pub fn next(&mut self, line: &mut Line, stop: &File) -> Result<Option<(Vec<u8>, Instant)>, String> {
-        let mut began = Instant::now();
+    /// The next frame; none once `stop` can be read.
+    pub fn next(&mut self, line: &mut Line, stop: &File) -> Result<Option<Frame>, String> {
         let mut buffer = [0; 512];
-        match self.parts.pop_front() {
-            Some(part) if !self.parts.is_empty() => return Ok(Some((part, began))),
-            part => self.framer.push(&part.unwrap_or_default()),
-        }
         loop {
-            let timeout = match self.framer.is_empty() {
-                true => self.replied.then_some(PATIENCE),
-                false => Some(line.silence),
+            if let Some(frame) = self.framer.take() {
+                return Ok((!line.is_stopped(stop)?).then_some(frame));
+            }
+            let in_frame = self.framer.waits_for_silence();
+            let timeout = match in_frame {
+                true => Some(line.silence),
+                false => self.replied.then_some(PATIENCE),
             };
             match line.wait(stop, timeout)? {
                 Event::Stop => return Ok(None),
-                Event::Timeout if !self.framer.is_empty() => return Ok(Some((self.framer.take(), began))),
+                Event::Timeout if in_frame => self.framer.fall_silent(),
                 Event::Timeout => {
                     line.forget()?;
                     self.replied = false;
                 }
-                Event::Ready => {
-                    if self.framer.is_empty() {
-                        began = Instant::now();
-                    }
-                    self.framer.push(line.read(&mut buffer)?);
-                }
+                Event::Ready => self.framer.push(line.read(&mut buffer)?),
             }
         }
     }

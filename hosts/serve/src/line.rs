@@ -6,7 +6,8 @@ use crate::framing;
 use crate::link::Link;
 use crate::say;
 use crate::sys::{self, Event, Wish};
-use serve_options::{Options, Parity};
+use serve_options::{Character, DataBits, Options, Parity};
+use sonde::Framing;
 use std::fs::{File, OpenOptions};
 use std::io::{self, ErrorKind, Read, Write};
 use std::os::unix::fs::OpenOptionsExt;
@@ -40,8 +41,10 @@ pub struct Line {
     /// The clients' end of a pseudo-terminal. It stays open here, so that the line lives on when a client leaves.
     clients: Option<File>,
     _link: Option<Link>,
+    pub framing: Framing,
     speed: u32,
-    /// What ends a frame.
+    character: Character,
+    /// What ends an RTU frame. In both framings, what equals a reply and comes before it is over is an echo.
     pub silence: Duration,
     echoes: Echoes,
     suspicion: Suspicion,
@@ -61,7 +64,7 @@ impl Line {
         let told = |e: io::Error| e.to_string();
         let file = open_line(path).map_err(told)?;
         lock(&file)?;
-        sys::set_raw(&file, options.speed, parity(&file, options.parity).map_err(told)?).map_err(told)?;
+        sys::set_raw(&file, options.speed, character(&file, options.character()).map_err(told)?).map_err(told)?;
         if let Some(rts) = options.rs485 {
             sys::set_rs485(&file, rts).map_err(|e| format!("the kernel can't switch its RS-485 driver (--rs485): {e}"))?;
         }
@@ -73,7 +76,7 @@ impl Line {
         let told = |e: io::Error| format!("there is no pseudo-terminal to be had: {e}");
         let (file, path) = sys::open_pty().map_err(told)?;
         let clients = open_line(&path).map_err(told)?;
-        sys::set_raw(&clients, options.speed, Parity::None).map_err(told)?;
+        sys::set_raw(&clients, options.speed, OF_A_PTY).map_err(told)?;
         let link = options.link.as_ref().map(|link| Link::make(link, &path)).transpose()?;
         Ok(Line {
             clients: Some(clients),
@@ -93,7 +96,9 @@ impl Line {
             file,
             clients: None,
             _link: None,
+            framing: framing::of(options),
             speed: options.speed,
+            character: options.character(),
             silence: options.silence.unwrap_or(framing::silence(options.speed)),
             echoes,
             suspicion: Suspicion::default(),
@@ -104,6 +109,11 @@ impl Line {
     /// Waits for bytes, for `stop`, or until the time is over.
     pub fn wait(&self, stop: &File, timeout: Option<Duration>) -> Result<Event, String> {
         sys::wait(&self.file, Wish::Read, stop, timeout).map_err(|e| self.failed(e))
+    }
+
+    /// Whether `stop` can be read.
+    pub fn is_stopped(&self, stop: &File) -> Result<bool, String> {
+        sys::stopped(stop, Duration::ZERO).map_err(|e| self.failed(e))
     }
 
     /// The bytes that are there, at most those that fit.
@@ -121,7 +131,7 @@ impl Line {
         if self.echoes == Echoes::No {
             return true;
         }
-        let verdict = self.suspicion.judge(frame, began);
+        let verdict = self.suspicion.judge(&framing::carried(self.framing, frame), began);
         match verdict {
             Verdict::Request => {}
             Verdict::LeftOut => self.tell(LEFT_OUT),
@@ -143,8 +153,8 @@ impl Line {
         let mut parts = vec![self.waiting()?];
         let start = Instant::now();
         if self.write(reply, stop)? {
-            let end = self.sent(start + framing::duration(reply.len(), self.speed), stop)?;
-            self.suspicion.replied(reply, end);
+            let end = self.sent(start + framing::duration(reply.len(), self.character, self.speed), stop)?;
+            self.suspicion.replied(framing::carried(self.framing, reply), end);
             parts.extend(self.drop_echo(reply, end, stop)?);
         }
         parts.retain(|part| !part.is_empty());
@@ -201,10 +211,11 @@ impl Line {
     /// Drops the echo of a reply whose last bit was sent at `end`. It is waited for where it has to come, but not long after as many bytes have come.
     fn drop_echo(&mut self, reply: &[u8], end: Instant, stop: &File) -> Result<Vec<Vec<u8>>, String> {
         let sure = self.echoes != Echoes::Perhaps;
-        let mut echo = Echo::of(reply);
+        let mut echo = Echo::of(reply, self.framing);
         let mut buffer = [0; 512];
         let mut last = end;
-        let mut until = end + if sure { PATIENCE } else { self.silence };
+        let window = end + if sure { PATIENCE } else { self.silence };
+        let mut until = window;
         while !echo.is_over() {
             match self.wait(stop, Some(until.saturating_duration_since(Instant::now())))? {
                 Event::Ready => echo.push(self.read(&mut buffer)?, last.elapsed() > self.silence),
@@ -214,8 +225,8 @@ impl Line {
             last = Instant::now();
             until = match sure {
                 true if echo.is_long_enough() => last + HELD_BACK,
-                false if echo.has_begun() => until.max(last + HELD_BACK),
-                _ => until,
+                false if echo.has_begun() => window.max(last + HELD_BACK),
+                _ => window,
             };
         }
         let (heard, parts) = echo.end();
@@ -253,7 +264,7 @@ impl Line {
         let Some(clients) = &self.clients else { return Ok(()) };
         let failed = |e| self.failed(e);
         if sys::has_echo(clients).map_err(failed)? {
-            sys::set_raw(clients, self.speed, Parity::None).map_err(failed)?;
+            sys::set_raw(clients, self.speed, OF_A_PTY).map_err(failed)?;
             self.tell("a client has switched on the pseudo-terminal's echo; it is off again");
         }
         Ok(())
@@ -273,9 +284,14 @@ impl Line {
     }
 }
 
-/// A pseudo-terminal has no parity, and the C library may refuse to set one.
-fn parity(line: &File, wanted: Parity) -> io::Result<Parity> {
-    Ok(if sys::is_pty(line)? { Parity::None } else { wanted })
+/// A pseudo-terminal has bytes and no parity, and the C library may refuse to set anything else.
+const OF_A_PTY: Character = Character {
+    data_bits: DataBits::Eight,
+    parity: Parity::None,
+};
+
+fn character(line: &File, wanted: Character) -> io::Result<Character> {
+    Ok(if sys::is_pty(line)? { OF_A_PTY } else { wanted })
 }
 
 fn open_line(path: &Path) -> io::Result<File> {

@@ -1,6 +1,7 @@
 //! The loop: cut a frame, let the library answer it, keep the volume safe, send the reply.
 
 use crate::date;
+use crate::framing::{exception, shown};
 use crate::inbox::Inbox;
 use crate::line::Line;
 use crate::say;
@@ -8,7 +9,7 @@ use crate::sensors::Sensors;
 use crate::sys;
 use crate::volume::VolumeFile;
 use serve_options::Options;
-use sonde::{Sonde, REPLY_BYTES};
+use sonde::{Arrival, Framing, Sonde};
 use std::fs::File;
 use std::io::Write;
 use std::time::SystemTime;
@@ -18,18 +19,18 @@ pub fn serve(options: &Options) -> Result<(), String> {
     let stop = sys::stop_signals().map_err(|e| format!("signals can't be caught: {e}"))?;
     let sensors = Sensors::new(options.raws, options.raws_file.as_deref())?;
     let line = Line::open(options)?;
-    let server = Server::new(options, sensors)?;
+    let server = Server::new(options, line.framing, sensors)?;
     announce(&line)?;
     exchange(server, line, &stop)
 }
 
 /// Answers frame after frame until `stop` can be read.
 fn exchange(mut server: Server, mut line: Line, stop: &File) -> Result<(), String> {
-    let mut inbox = Inbox::default();
+    let mut inbox = Inbox::new(line.framing);
+    let mut buffer = vec![0; line.framing.reply_bytes()];
     while let Some((frame, began)) = inbox.next(&mut line, stop)? {
         if line.is_request(&frame, began) {
-            let mut reply = [0; REPLY_BYTES];
-            let reply = server.answer(&frame, &mut reply)?;
+            let reply = server.answer(&frame, &mut buffer)?;
             inbox.put(line.send(reply, stop)?);
         }
     }
@@ -47,6 +48,7 @@ struct Server {
     sonde: Sonde,
     volume: VolumeFile,
     sensors: Sensors,
+    framing: Framing,
     /// None: the system's.
     clock: Option<u32>,
     verbose: bool,
@@ -58,7 +60,7 @@ struct Server {
 const JOURNAL_FULL: u8 = 0xC0;
 
 impl Server {
-    fn new(options: &Options, sensors: Sensors) -> Result<Server, String> {
+    fn new(options: &Options, framing: Framing, sensors: Sensors) -> Result<Server, String> {
         let (volume, sonde) = match &options.new_volume {
             Some(new) => VolumeFile::succeed(&options.volume, new, options.address, options.entries)?,
             None => VolumeFile::open(&options.volume, options.address, options.entries)?,
@@ -70,6 +72,7 @@ impl Server {
             sonde,
             volume,
             sensors,
+            framing,
             clock: options.clock,
             verbose: options.verbose,
             refused: false,
@@ -82,14 +85,18 @@ impl Server {
         let clock = self.clock.unwrap_or_else(system_clock);
         let refused = |e: sonde::Error| format!("the library refused a call with number {}: {e}", e as u8);
         self.sensors.measure(&mut self.sonde).map_err(refused)?;
-        let reply = self.sonde.frame(frame, buffer, &mut self.volume.words, clock).map_err(refused)?;
+        let arrival = Arrival {
+            clock,
+            framing: self.framing,
+        };
+        let reply = self.sonde.frame(frame, buffer, &mut self.volume.words, arrival).map_err(refused)?;
         let journalled = self.volume.save()?;
         if self.verbose {
             let entries = journalled
                 .then(|| self.sonde.audit(&self.volume.words))
                 .transpose()
                 .map_err(refused)?;
-            say(&log_line(clock, frame, reply, entries));
+            say(&log_line(arrival, frame, reply, entries));
         }
         self.tell_full(journalled, reply);
         Ok(reply)
@@ -97,7 +104,7 @@ impl Server {
 
     /// Says what to do about a full journal: once when it becomes full, and once when an update is refused for it.
     fn tell_full(&mut self, journalled: bool, reply: &[u8]) {
-        let refused = matches!(reply, [_, function, JOURNAL_FULL, ..] if function & 0x80 != 0);
+        let refused = exception(self.framing, reply) == Some(JOURNAL_FULL);
         if journalled && self.volume.is_full() || refused && !self.refused {
             say(&full(&self.volume));
         }
@@ -121,15 +128,15 @@ fn system_clock() -> u32 {
 }
 
 /// What --verbose says of a frame; the entries in use, where it was an accepted calibration.
-fn log_line(clock: u32, frame: &[u8], reply: &[u8], entries: Option<u16>) -> String {
-    let hex = |bytes: &[u8]| bytes.iter().map(|b| format!("{b:02X}")).collect::<Vec<_>>().join(" ");
-    let answer = match reply {
-        [] => "no reply".to_string(),
-        [_, function, code, ..] if function & 0x80 != 0 => format!("< {} (exception 0x{code:02X})", hex(reply)),
-        _ => format!("< {}", hex(reply)),
+fn log_line(arrival: Arrival, frame: &[u8], reply: &[u8], entries: Option<u16>) -> String {
+    let Arrival { clock, framing } = arrival;
+    let answer = match (reply, exception(framing, reply)) {
+        ([], _) => "no reply".to_string(),
+        (_, Some(code)) => format!("< {} (exception 0x{code:02X})", shown(framing, reply)),
+        _ => format!("< {}", shown(framing, reply)),
     };
     let note = entries.map_or(String::new(), |n| format!(" (calibration journalled, entries in use: {n})"));
-    format!("{} {clock} > {} {answer}{note}", date::utc(clock), hex(frame))
+    format!("{} {clock} > {} {answer}{note}", date::utc(clock), shown(framing, frame))
 }
 
 #[cfg(test)]
@@ -139,15 +146,33 @@ mod tests {
     #[test]
     fn a_line_for_each_frame() {
         let lines = [
-            log_line(7, &[1, 3, 0xAB], &[], None),
-            log_line(7, &[1, 0x44], &[1, 0xC4, 1, 0, 0], None),
-            log_line(9, &[1, 6], &[1, 6], Some(3)),
+            log_line(Arrival::rtu(7), &[1, 3, 0xAB], &[], None),
+            log_line(Arrival::rtu(7), &[1, 0x44], &[1, 0xC4, 1, 0, 0], None),
+            log_line(Arrival::rtu(9), &[1, 6], &[1, 6], Some(3)),
         ];
         assert_eq!(lines[0], "1970-01-01T00:00:07Z 7 > 01 03 AB no reply");
         assert_eq!(lines[1], "1970-01-01T00:00:07Z 7 > 01 44 < 01 C4 01 00 00 (exception 0x01)");
         assert_eq!(
             lines[2],
             "1970-01-01T00:00:09Z 9 > 01 06 < 01 06 (calibration journalled, entries in use: 3)"
+        );
+    }
+
+    #[test]
+    fn ascii_frames_are_shown_as_text() {
+        let lines = [
+            log_line(Arrival::ascii(7), b":01\x8A\n", &[], None),
+            log_line(Arrival::ascii(7), b":010325000001D6\r\n", b":0183027A\r\n", None),
+            log_line(Arrival::ascii(9), b":01\r\n", b":0103830277\r\n", Some(3)),
+        ];
+        assert_eq!(lines[0], "1970-01-01T00:00:07Z 7 > :01\\x8a\\n no reply");
+        assert_eq!(
+            lines[1],
+            "1970-01-01T00:00:07Z 7 > :010325000001D6\\r\\n < :0183027A\\r\\n (exception 0x02)"
+        );
+        assert_eq!(
+            lines[2],
+            "1970-01-01T00:00:09Z 9 > :01\\r\\n < :0103830277\\r\\n (calibration journalled, entries in use: 3)"
         );
     }
 }

@@ -4,7 +4,7 @@ const SENT: [u8; 4] = [1, 6, 0, 105];
 
 /// Parts that came after a silence have `true`.
 fn heard(parts: &[(&[u8], bool)]) -> (Heard, Vec<Vec<u8>>) {
-    let mut echo = Echo::of(&SENT);
+    let mut echo = Echo::of(&SENT, Framing::Rtu);
     parts.iter().for_each(|(part, after)| echo.push(part, *after));
     echo.end()
 }
@@ -44,9 +44,36 @@ fn what_differs_is_kept_in_its_parts() {
     );
 }
 
+/// An ASCII reply, and what comes after it in pieces whose pauses mean nothing.
+fn heard_in_ascii(pieces: &[&[u8]]) -> (Heard, Vec<Vec<u8>>) {
+    let mut echo = Echo::of(b":0183027A\r\n", Framing::Ascii);
+    pieces.iter().for_each(|piece| echo.push(piece, true));
+    echo.end()
+}
+
+#[test]
+fn in_ascii_a_colon_and_no_silence_begins_a_frame() {
+    let request = b":0103:\r\n".to_vec();
+    assert_eq!(heard_in_ascii(&[b":0183", b"027A", b"\r\n"]), (Heard::Echo, vec![]));
+    assert_eq!(
+        heard_in_ascii(&[b":0183027A\r\n:01", b"03"]),
+        (Heard::Echo, vec![b":0103".to_vec()])
+    );
+    assert_eq!(
+        heard_in_ascii(&[b":02\r\n", b":0183027A\r\n"]),
+        (Heard::Echo, vec![b":02\r\n".to_vec()])
+    );
+    // cut short by the next frame, or by nothing
+    assert_eq!(heard_in_ascii(&[b":0183", b":02\r\n"]), (Heard::Echo, vec![b":02\r\n".to_vec()]));
+    assert_eq!(heard_in_ascii(&[b":0183", b"02"]), (Heard::Echo, vec![]));
+    // not the reply, though a pause stands where it differs
+    assert_eq!(heard_in_ascii(&[b":01", b"03\r\n"]), (Heard::Other, vec![b":0103\r\n".to_vec()]));
+    assert_eq!(heard_in_ascii(&[&request]).1.concat(), request);
+}
+
 #[test]
 fn when_it_is_over() {
-    let mut echo = Echo::of(&SENT);
+    let mut echo = Echo::of(&SENT, Framing::Rtu);
     assert!(!echo.has_begun());
     echo.push(&SENT[..1], false);
     assert!(echo.has_begun() && !echo.is_long_enough());
@@ -54,7 +81,7 @@ fn when_it_is_over() {
     assert!(!echo.has_begun() && echo.is_long_enough() && !echo.is_over());
     echo.push(&[105], false);
     assert!(echo.is_over());
-    let mut babble = Echo::of(&SENT);
+    let mut babble = Echo::of(&SENT, Framing::Rtu);
     babble.push(&[0; MOST + 1], false);
     assert!(babble.is_over());
 }
@@ -62,7 +89,7 @@ fn when_it_is_over() {
 /// A suspicion after a reply, and the time of its last bit.
 fn after(reply: &[u8]) -> (Suspicion, Instant) {
     let (mut suspicion, now) = (Suspicion::default(), Instant::now());
-    suspicion.replied(reply, now);
+    suspicion.replied(reply.to_vec(), now);
     (suspicion, now)
 }
 
@@ -75,7 +102,7 @@ fn replies_that_are_no_requests_are_an_echo() {
         assert_eq!(suspicion.judge(&[1, 3, 0, 0], now), Verdict::Request);
         for _ in 0..REMEMBERED {
             assert_eq!(suspicion.judge(reply, now), Verdict::Echo);
-            suspicion.replied(&SENT, now);
+            suspicion.replied(SENT.to_vec(), now);
         }
         assert_eq!(suspicion.judge(reply, now), Verdict::Request);
     }
@@ -106,7 +133,7 @@ fn of_a_client_that_repeats_its_write_one_is_left_out() {
 fn a_loop_ends_with_the_frame_that_is_left_out() {
     let (mut suspicion, now) = after(&SENT);
     let (other, request) = ([1, 6, 0, 106], [1, 3, 0, 0]);
-    suspicion.replied(&other, now);
+    suspicion.replied(other.to_vec(), now);
     for _ in 0..REPEATS / 2 {
         repeats(&mut suspicion, &SENT, now, 1); // two loops, one in the other
         repeats(&mut suspicion, &other, now, 1);

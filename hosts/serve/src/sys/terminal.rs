@@ -1,7 +1,7 @@
 //! Pseudo-terminals and the settings of a line.
 
 use super::done;
-use serve_options::{Parity, Rts};
+use serve_options::{Character, DataBits, Parity, Rts};
 use std::ffi::{c_char, c_int, c_uint, c_ulong, CStr, OsStr};
 use std::fs::File;
 use std::io;
@@ -18,6 +18,9 @@ const IGNPAR: c_uint = 0o4;
 const INPCK: c_uint = 0o20;
 const IXANY: c_uint = 0o4000;
 const IXOFF: c_uint = 0o10000;
+const CSIZE: c_uint = 0o60;
+const CS7: c_uint = 0o40;
+const CS8: c_uint = 0o60;
 const CSTOPB: c_uint = 0o100;
 const CREAD: c_uint = 0o200;
 const PARENB: c_uint = 0o400;
@@ -93,23 +96,28 @@ fn termios_of(line: &File) -> io::Result<Termios> {
     done(unsafe { tcgetattr(line.as_raw_fd(), &mut termios) }).map(|_| termios)
 }
 
-/// Bytes as they are, 8 bits each, at this speed. A byte with a wrong parity is read as zero, so that the checksum refuses it.
-pub fn set_raw(line: &File, speed: u32, parity: Parity) -> io::Result<()> {
+/// Characters as they are, all their data bits, at this speed. One with a wrong parity is read as zero: the checksum, or the
+/// form of ASCII, refuses it, and an ASCII frame whose colon is lost isn't seen.
+pub fn set_raw(line: &File, speed: u32, character: Character) -> io::Result<()> {
     let mut termios = termios_of(line)?;
     // SAFETY: the struct is as glibc declares it; cfmakeraw and cfsetspeed look at nothing else.
     unsafe {
         cfmakeraw(&mut termios);
         done(cfsetspeed(&mut termios, speed))?;
     }
-    termios.cflag &= !(CSTOPB | PARENB | PARODD | CMSPAR | CRTSCTS);
+    termios.cflag &= !(CSIZE | CSTOPB | PARENB | PARODD | CMSPAR | CRTSCTS);
     termios.cflag |= CREAD | CLOCAL;
-    termios.cflag |= match parity {
+    termios.cflag |= match character.data_bits {
+        DataBits::Seven => CS7,
+        DataBits::Eight => CS8,
+    };
+    termios.cflag |= match character.parity {
         Parity::None => CSTOPB,
         Parity::Even => PARENB,
         Parity::Odd => PARENB | PARODD,
     };
     termios.iflag &= !(INPCK | IGNPAR | IXANY | IXOFF);
-    if parity != Parity::None {
+    if character.parity != Parity::None {
         termios.iflag |= INPCK;
     }
     // SAFETY: the descriptor is open, and the struct is as glibc declares it.

@@ -196,7 +196,7 @@ fn a_client_that_repeats_itself_has_one_frame_left_out() {
             unanswered += 1;
             client.send(&on); // after its time-out
         }
-        sleep(Duration::from_millis(20)); // a reply of 4.6 ms, and the silence
+        sleep(Duration::from_millis(80)); // a reply of 4.6 ms and the silence, on a busy machine; still soon after the reply
     }
     assert_eq!(unanswered, 1);
     assert!(server.stop("TERM").1.contains("left out once"));

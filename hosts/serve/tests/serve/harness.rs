@@ -211,11 +211,25 @@ impl Client {
         bytes
     }
 
+    /// Sends bytes, and holds the reply to those that are expected.
+    pub fn exchange(&mut self, bytes: &[u8], expected: &[u8]) {
+        self.send(bytes);
+        self.hears(expected);
+    }
+
+    pub fn hears(&mut self, expected: &[u8]) {
+        let heard = self.receive(expected.len(), DEADLINE);
+        assert_eq!(heard, expected, "{} is not {}", heard.escape_ascii(), expected.escape_ascii());
+    }
+
     /// Sends a body with its checksum, and holds the reply to an expected body with its own.
     pub fn ask(&mut self, body: &[u8], expected: &[u8]) {
-        self.send(&framed(body));
-        let expected = framed(expected);
-        assert_eq!(self.receive(expected.len(), DEADLINE), expected, "the reply to {body:02X?}");
+        self.exchange(&framed(body), &framed(expected));
+    }
+
+    /// The same in ASCII.
+    pub fn ask_in_ascii(&mut self, body: &[u8], expected: &[u8]) {
+        self.exchange(&in_ascii(body), &in_ascii(expected));
     }
 
     /// The same on a line that hands back what it is given: the reply goes straight back.
@@ -240,4 +254,11 @@ pub fn framed(body: &[u8]) -> Vec<u8> {
         }
     }
     [body, &crc.to_le_bytes()].concat()
+}
+
+/// A body as Modbus ASCII has it: the LRC makes the sum of all bytes zero.
+pub fn in_ascii(body: &[u8]) -> Vec<u8> {
+    let sum = body.iter().fold(0, |sum: u8, byte| sum.wrapping_add(*byte));
+    let digits: String = body.iter().chain([&sum.wrapping_neg()]).map(|byte| format!("{byte:02X}")).collect();
+    format!(":{digits}\r\n").into_bytes()
 }

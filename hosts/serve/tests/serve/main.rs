@@ -1,5 +1,7 @@
 //! The server as a process, driven over its line byte for byte. Expected bytes are worked out from document 01.
 
+mod ascii;
+mod ascii_echo;
 mod check;
 mod echo;
 mod files;

@@ -9,6 +9,12 @@ fn wrong_options_are_told_and_nothing_is_begun() {
         ("--speed", "--speed wants a value"),
         ("--speed 12", "--speed 12: the speeds are"),
         ("--parity mark", "--parity mark: it is none, even or odd"),
+        ("--ascii --data-bits 9", "--data-bits 9: it is 7 or 8"),
+        ("--data-bits 7", "--data-bits 7 is for --ascii, and Modbus RTU has 8"),
+        (
+            "--silence 20 --ascii",
+            "--silence is for Modbus RTU, and --ascii ends a frame by LF alone",
+        ),
         ("--address 248", "--address 248: that is no whole number from 1 to 247"),
         ("--entries 1001", "--entries 1001: that is no whole number from 1 to 1000"),
         ("--raw 2=nan", "--raw 2=nan: the value is no finite number"),
@@ -40,8 +46,10 @@ fn help_names_every_option() {
     for name in [
         "device",
         "link",
+        "ascii",
         "speed",
         "parity",
+        "data-bits",
         "silence",
         "echo",
         "rs485",
@@ -59,7 +67,14 @@ fn help_names_every_option() {
     ] {
         assert!(text.contains(&format!("    --{name} ")), "{name}");
     }
-    for limit in ["the disk is full", "no time stamps", "No effect on a file that is there"] {
+    for limit in [
+        "the disk is full",
+        "no time stamps",
+        "No effect on a file that is there",
+        "as Modbus RTU or ASCII",
+        "there is no time-out",
+        "Refused with --ascii",
+    ] {
         assert!(text.contains(limit), "{limit}");
     }
 }
