@@ -5,7 +5,8 @@
  *     begin COUNT                          number; the volume has COUNT words from then on, each A5A5 before the call
  *     power-up ADDRESS                     number
  *     measure SENSOR PRESENT BITS BITS     number
- *     frame CLOCK BYTES                    number and the reply's bytes
+ *     frame CLOCK BYTES                    number and the reply's bytes, in RTU
+ *     ascii CLOCK BYTES                    number and the reply's characters as bytes, in ASCII
  *     load WORDS                           0; the volume is these words from then on
  *     words                                the volume's words
  */
@@ -18,7 +19,7 @@
 #define MOST 30000
 
 static uint16_t volume[MOST];
-static uint8_t reply[SONDE_REPLY_BYTES];
+static uint8_t reply[SONDE_ASCII_REPLY_BYTES];
 static size_t words;
 static Sonde sonde;
 
@@ -48,12 +49,13 @@ static unsigned measure(void) {
     return made_by(sonde_measure(sonde, sensor, present, raw1, raw2));
 }
 
-static void frame(void) {
+static void frame(bool ascii) {
     uint32_t clock = (uint32_t)strtoul(strtok(NULL, " "), NULL, 10);
-    uint8_t bytes[512];
+    uint8_t bytes[1024];
     size_t n = 0;
     for (char *byte; n < sizeof bytes && (byte = strtok(NULL, " ")) != NULL;) bytes[n++] = (uint8_t)strtoul(byte, NULL, 16);
-    SondeFrame f = sonde_frame(sonde, bytes, n, reply, sizeof reply, volume, words, clock);
+    size_t room = ascii ? SONDE_ASCII_REPLY_BYTES : SONDE_REPLY_BYTES;
+    SondeFrame f = sonde_frame(sonde, bytes, n, reply, room, volume, words, clock, ascii);
     sonde = f.sonde;
     printf("%u", f.number);
     for (size_t i = 0; i < f.length; i++) printf(" %02X", reply[i]);
@@ -75,7 +77,8 @@ int main(void) {
         else if (strcmp(call, "begin") == 0) printf("%u", begin((size_t)atol(strtok(NULL, " "))));
         else if (strcmp(call, "power-up") == 0) printf("%u", made_by(sonde_power_up((uint8_t)atoi(strtok(NULL, " ")), volume, words)));
         else if (strcmp(call, "measure") == 0) printf("%u", measure());
-        else if (strcmp(call, "frame") == 0) frame();
+        else if (strcmp(call, "frame") == 0) frame(false);
+        else if (strcmp(call, "ascii") == 0) frame(true);
         else if (strcmp(call, "load") == 0) load();
         else if (strcmp(call, "words") == 0) for (size_t i = 0; i < words; i++) printf("%s%04X", i == 0 ? "" : " ", volume[i]);
         else return 2;

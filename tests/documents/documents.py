@@ -4,6 +4,7 @@ One line for each check, exit status 1 where one failed. A check reads the manua
 where the manual says something else, and where it says nothing."""
 
 import re
+import string
 import struct
 import subprocess
 import sys
@@ -14,6 +15,7 @@ CLOCK = 1767225600
 INFINITY = [0x7F80, 0]
 SENSORS = range(1, 5)
 PARAMETERS = (130, 138, 146, 230, 330, 338, 430)
+RTU, ASCII = r"[0-9A-F]{2}( [0-9A-F]{2})+", r":.*"  # frames of the dialogues
 
 
 # ---- floats and words
@@ -71,6 +73,21 @@ class Manual:
         found = re.search(pattern, re.sub(r"\s+", " ", self.text))
         assert found, f"nothing says: {pattern}"
         return found.groups()
+
+    def dialogue(self, pattern):
+        """Clock, request, reply and what is said of the request, of each exchange whose frames match a pattern."""
+        clock, request, out = 0, None, []
+        for mark, text, said in re.findall(r"^    ([@><]) (.*?)(?:  (.*))?$", self.text, re.M):
+            if mark == "@":
+                clock = int(text)
+            elif not re.fullmatch(pattern, text):
+                continue
+            elif mark == ">":
+                request = text, said
+            else:
+                out.append((clock, request[0], text, request[1]))
+        assert out, f"no frame matches {pattern}"
+        return out
 
     def worked(self):
         lines = re.findall(r"^    ((?:[0-9A-F]{4} ){7}[0-9A-F]{4})$", self.text, re.M)
@@ -143,6 +160,12 @@ class Desk:
             replies.append(reply[:-2])
         return replies
 
+    def characters(self, text, clock=CLOCK):
+        """The reply's characters to those of an ASCII frame; "" for none."""
+        refused, *reply = self.ask(f"ascii {clock} {text.encode('latin-1').hex(' ')}")[0].split()
+        assert refused == "0"
+        return bytes.fromhex("".join(reply)).decode("latin-1")
+
     def read(self, start, count=1):
         """The words, or a code."""
         reply = self.frame(1, 3, *two(start), *two(count))
@@ -178,6 +201,15 @@ def sealed(body):
     return [*body, checksum & 0xFF, checksum >> 8]
 
 
+def lrc(data):
+    return -sum(data) % 256
+
+
+def spelled(body):
+    """The characters of an ASCII frame."""
+    return ":" + "".join(f"{byte:02X}" for byte in [*body, lrc(body)]) + "\r\n"
+
+
 def equal(got, expected, what):
     assert got == expected, f"{what}: {got} instead of {expected}"
 
@@ -202,14 +234,13 @@ def size_of(text, count):
 
 
 def parts_of(layout, given):
-    """The bytes of a layout such as "address (1), words (2 × count)", with what is given for each part."""
+    """The bytes of a layout such as "address (1), words (2 × count), CRC (2)", without the CRC, with what is given for each part."""
     out = []
-    for part in layout.split(", "):
+    *parts, last = layout.split(", ")
+    equal(last, "CRC (2)", "the last part")
+    for part in parts:
         name, size = re.fullmatch(r"(.+) \((.+)\)", part).groups()
         value = given[name]
-        if name == "CRC":
-            value = crc(out)
-            value = value >> 8 | (value & 0xFF) << 8
         if isinstance(value, list):
             value = int("".join(f"{word:04X}" for word in value), 16)
         out += value.to_bytes(size_of(size, given.get("count")), "big")
@@ -217,8 +248,7 @@ def parts_of(layout, given):
 
 
 def layouts(desk, registers, _):
-    desk.fresh()
-    assert desk.write(205, 0xE000) == 0
+    registers.says(r"In ASCII the LRC \(1\) stands in the place of the CRC \(2\), and the length is in characters, from the colon to LF")
     one, both = [CLOCK >> 16, CLOCK & 0xFFFF, 0, 0, 0], [0x3F90, 0]
     played = {
         "3": {"start": 2, "count": 5, "words": one},
@@ -227,25 +257,197 @@ def layouts(desk, registers, _):
         "22": {"register": 206, "A": 0, "B": 1},
         "refused": {"function": 6, "register": 0, "word": 5, "code": 0xC2, "function with 0x80 set": 0x86},
     }
-    rows = registers.table("Function", "Request", "Length", "Reply", "Length")
+    rows = layout_rows(registers)
     equal(list(played), [row[0] for row in rows], "functions")
     six = next(row for row in rows if row[0] == "6")
-    for function, request, length, reply, reply_length in rows:
-        given = {"address": 1, "function": int(function) if function != "refused" else 6, **played[function], "CRC": 0}
-        given["byte count"] = 2 * given.get("count", 0)
-        if function == "3":  # the counters are those before the frame
-            given["words"] = one[:2] + desk.read(4, 3)
-            given["words"][2] += 1
-        if function == "refused":
-            request, length = six[1], six[2]
-        request = parts_of(request, given)
-        reply = request if reply == "as the request" else parts_of(reply, given)
-        for text, frame in ((length, request), (reply_length, reply)):
-            equal(len(frame), size_of(text, given.get("count")), f"the length of {function}")
-        answer = desk.ask(f"frame {CLOCK} {hexadecimal(request, 2)}")[0]
-        equal(answer, f"0 {hexadecimal(reply, 2)}", f"the reply to {function}")
-    equal(desk.read(206), [1], "what function 22 wrote")
-    equal(desk.read(212, 2), both, "what function 16 wrote")
+    for ascii in (False, True):
+        desk.fresh()
+        assert desk.write(205, 0xE000) == 0
+        for function, request, *lengths, reply, bytes_back, characters_back in rows:
+            given = {"address": 1, "function": int(function) if function != "refused" else 6, **played[function]}
+            given["byte count"] = 2 * given.get("count", 0)
+            if function == "3":  # the counters are those before the frame
+                given["words"] = one[:2] + desk.read(4, 3)
+                given["words"][2] += 1
+            if function == "refused":
+                request, *lengths = six[1:4]
+            request = parts_of(request, given)
+            reply = request if reply == "as the request" else parts_of(reply, given)
+            for length, characters, body in ((*lengths, request), (bytes_back, characters_back, reply)):
+                equal(len(sealed(body)), size_of(length, given.get("count")), f"the bytes of {function}")
+                equal(len(spelled(body)), size_of(characters, given.get("count")), f"the characters of {function}")
+            if ascii:
+                equal(desk.characters(spelled(request)), spelled(reply), f"the reply to {function} in ASCII")
+            else:
+                equal(desk.frame(*request), reply, f"the reply to {function}")
+        equal(desk.read(206), [1], "what function 22 wrote")
+        equal(desk.read(212, 2), both, "what function 16 wrote")
+
+
+def layout_rows(registers):
+    return registers.table("Function", "Request", "RTU bytes", "ASCII characters", "Reply", "RTU bytes", "ASCII characters")
+
+
+def good_ascii(registers):
+    """The worked frame, after its sum and LRC were worked anew."""
+    data, total, low, same, value, text = registers.says(
+        r"Of the bytes ((?:[0-9A-F]{2} )+)the sum is (0x\w+), its low byte (0x\w+), and 0x100 - (0x\w+) = (0x\w+); the frame is `(:\w+)` with CR LF"
+    )
+    body = bytes.fromhex(data)
+    equal([number(total), number(low), number(same)], [sum(body), sum(body) % 256, sum(body) % 256], "the sum")
+    equal([number(value), text + "\r\n"], [0x100 - sum(body) % 256, spelled(body)], "the LRC and the frame")
+    return text + "\r\n"
+
+
+def ascii_checksum(desk, registers, _):
+    good = good_ascii(registers)
+    desk.fresh()
+    equal(desk.characters(good), good, "the reply to the worked frame")
+    modulus, = registers.says(r"The LRC is the two's complement of the sum of the bytes before it, modulo (\d+)")
+    equal(int(modulus), 0x100, "the modulus")
+    low, = registers.says("A sum whose low byte is 0 has the LRC ([0-9A-F]+)\\.")
+    registers.says("All bytes with the LRC add up to a low byte of 0")
+    equal(desk.characters(f":010300640098{low}\r\n"), spelled([1, 0x83, 3]), "the reply to a frame whose sum is 0x100")
+
+
+def lengths(desk, registers, _):
+    """Frames with 0 to 258 bytes before their checksum: those of the lengths that the manual gives are answered, the others count as bad."""
+    factor, plus = map(int, registers.says(r"A frame of n bytes in RTU has (\d+) × n \+ (\d+) characters in ASCII"))
+    answered = []
+    for n in range(259):
+        body = [1, 3, *[0] * 257][:n]
+        equal(factor * len(sealed(body)) + plus, len(spelled(body)), "the characters")
+        desk.fresh()
+        replies = desk.ask(f"frame 0 {hexadecimal(sealed(body), 2)}")[0], desk.characters(spelled(body))
+        if replies != ("0", ""):
+            equal(replies, (f"0 {hexadecimal(sealed([1, 0x83, 3]), 2)}", spelled([1, 0x83, 3])), f"the replies to {n} bytes in both framings")
+            answered.append(n)
+        equal(desk.read(4, 3), [2, 0, 2] if n in answered else [0, 2, 0], f"the counters after {n} bytes in both framings")
+    equal(answered, list(range(min(answered), max(answered) + 1)), "the lengths that are answered")
+    given = registers.says(r"An RTU frame has (\d+) to (\d+) bytes") + registers.says(r"(\d+) to (\d+) bytes with the LRC, that is (\d+) to (\d+) characters")
+    ends = min(answered), max(answered)
+    equal(list(map(int, given)), [*(n + 2 for n in ends), *(n + 1 for n in ends), *(2 * n + 5 for n in ends)], "the least and greatest lengths")
+    rows = {row[0]: row[-1] for row in layout_rows(registers)}
+    longest, shortest = map(int, registers.says(r"A reply has at most (\d+) characters, an exception (\d+)\."))
+    equal([longest, shortest], [size_of(rows["3"], 125), size_of(rows["refused"], None)], "the longest reply and an exception")
+
+
+def bad_ascii(desk, registers, _):
+    good = good_ascii(registers)
+    pairs = good[1:-2]
+    listed = {}
+    for what, example in registers.table("Bad", "Example"):
+        text = "".join(quoted or {"CR": "\r", "LF": "\n"}[named] for quoted, named in re.findall(r"`([^`]*)`|(\w+)", example))
+        listed[what] = text
+        desk.fresh()
+        equal(desk.characters(text), "", f"the reply to {example}")
+        equal(desk.read(4, 3), [0, 1, 0], f"the counters after {example}")
+    frames = {
+        "a digit in lower case": ":010600cde0004C\r\n",
+        "a blank or another character among the digits": f":{pairs[:2]} {pairs[2:]}\r\n",
+        "an odd number of digits": f":{pairs}0\r\n",
+        "no colon": f"{pairs}\r\n",
+        "two colons": f"::{pairs}\r\n",
+        "a byte before the colon": f"0{good}",
+        "a byte behind LF": f"{good}0",
+        "LF without CR": f":{pairs}\n",
+        "LF before CR": f":{pairs}\n\r",
+        "no LF": f":{pairs}\r",
+        "another LRC": ":010600CDE0004D\r\n",
+        "address and LRC alone": spelled([1]),
+        "the LRC alone": spelled([]),
+        "no byte at all": ":\r\n",
+    }
+    equal(listed, frames, "the bad frames")
+    registers.says("one with its top bit set breaks the form")
+    for at, character in enumerate(good):
+        desk.fresh()
+        equal(desk.characters(good[:at] + chr(ord(character) | 0x80) + good[at + 1 :]), "", f"the reply with the top bit of character {at} set")
+        equal(desk.read(4, 3), [0, 1, 0], "the counters after it")
+
+
+def digits(desk, registers, _):
+    """Every byte as a digit, the first of a read's start, which doesn't exist whatever the digit."""
+    first, last, tenth, sixteenth = registers.says(r"digits are (\w) to (\w) and (\w) to (\w), the high one first")
+    for character in map(chr, range(256)):
+        is_digit = first <= character <= last or tenth <= character <= sixteenth
+        check = lrc([1, 3, 16 * (int(character, 16) if character in string.hexdigits else 0) + 9, 0, 0, 1])
+        desk.fresh()
+        reply = desk.characters(f":0103{character}9000001{check:02X}\r\n")
+        equal(reply, spelled([1, 0x83, 2]) if is_digit else "", f"the reply with the digit {character!r}")
+        equal(desk.read(4, 3), [1, 0, 1] if is_digit else [0, 1, 0], f"the counters after the digit {character!r}")
+
+
+def summed(text, body):
+    """What a text such as "0x01 + 0x03 = 0x04, and 0x100 - 0x04 = 0xFC" says of a body and its LRC."""
+    terms, total, low, value = re.fullmatch(r"(.+) = (0x\w+), and 0x100 - (0x\w{2}) = (0x\w{2})", text).groups()
+    equal([number(term) for term in terms.split(" + ")], list(body), "the bytes that are added")
+    equal([number(total), number(low), number(value)], [sum(body), sum(body) % 256, lrc(body)], "sum, low byte and LRC")
+
+
+def ascii_exchange(desk, registers, _):
+    """The two tables, character by character; they are the first exchange of the ASCII dialogue. Then the exception in it."""
+    dialogue = registers.dialogue(ASCII)
+    clock, *first, _ = dialogue[0]
+    desk.fresh()
+    equal(desk.characters(first[0] + "\r\n", clock), first[1] + "\r\n", "the first reply")
+    for name, line in zip(("Request", "Reply"), first):
+        rows = registers.table(name, "On the line", "Bytes", "What it is")
+        ends = {"CR": "\r", "LF": "\n"}
+        texts = [ends[cell] if cell in ends else cell.strip("`") for cell, *_ in rows]
+        equal("".join(texts), line + "\r\n", f"the characters of the {name}")
+        size, = registers.says(rf"[Tt]he {name.lower()} has (\d+) characters:")
+        equal(int(size), len(line) + 2, f"the length of the {name}")
+        equal([row[3] for row in (rows[0], *rows[-2:])], ["the frame begins", "carriage return", "line feed: the frame ends"], "the frame's ends")
+        for text, (_, sent, data, what) in zip(texts, rows):
+            equal(sent, hexadecimal(text.encode(), 2), f"{name} on the line")
+            equal(data.replace(" ", ""), text if text.isalnum() else "", f"bytes of the {name}")
+            if text.isalnum() and not what.startswith("LRC"):
+                equal(int(re.findall(r"\d+", what)[-1]), int(text, 16), f"{name}: {what}")
+        named = [int(register) for *_, what in rows for register in re.findall(r"register (\d+)", what)]
+        equal(named, [7, 8] if name == "Reply" else [7], f"registers of the {name}")
+        summed(rows[-3][3].removeprefix("LRC: "), bytes.fromhex("".join(texts[1:-3])))
+    text, address, function, refused, code, check, sums = registers.says(
+        r"The exception in it, `(:\w+)`, is address (\w+), function (\w+) with 0x80 set, which is (\w+), the code (\w+), and the LRC (\w+): ([^.]+)\."
+    )
+    assert text in [reply for _, _, reply, _ in dialogue], f"{text} isn't in the dialogue"
+    equal(f":{address}{refused}{code}{check}", text, "the exception")
+    equal(int(function, 16) | 0x80, int(refused, 16), "its function")
+    summed(sums, bytes.fromhex(address + refused + code))
+
+
+COMMANDS = {"mode on": 0xE000, "update": 0xE001, "mode off": 0xE002}
+PLACES = {"offset": 10, "slope": 12, "x1": 16, "y1": 18}
+
+
+def said(desk, registers, _):
+    """What stands behind the requests of the two dialogues is what the frames carry."""
+    for pattern in (RTU, ASCII):
+        updated, written = None, {}
+        for clock, request, reply, what in registers.dialogue(pattern):
+            body, answer = (bytes.fromhex(text[1:-2]) if pattern is ASCII else bytes.fromhex(text)[:-2] for text in (request, reply))
+            name = re.match(r"mode o\w+|update|method|last calibration|capacity|\w+", what).group()
+            offset, word = int.from_bytes(body[2:4], "big") % 100, int.from_bytes(body[-2:], "big")
+            refused = answer[1] & 0x80
+            back = [int.from_bytes(answer[k : k + 2], "big") for k in range(3, len(answer) - 1, 2)]
+            figures = [float(figure) for figure in re.findall(r"-?\d+(?:\.\d+)?", what.partition(";")[0])]
+            if name in COMMANDS:
+                equal((offset, word, bool(refused)), (5, COMMANDS[name], ":" in what), what)
+                code = {"outside": 0x97, "full": 0xC0}.get((re.findall("outside|full", what) or [None])[0], 0)
+                equal(answer[2] if refused else 0, code, what)
+                equal([written["y1"] / written["x1"]] if figures else [], figures, what)
+                updated = clock if name == "update" and not refused else updated
+            elif name == "method":
+                equal((offset, word, what.split(": ")[1]), (6, figures[0], {1: "one point", 2: "two points"}[word]), what)
+            elif name == "last calibration":
+                equal(back, [updated >> 16, updated & 0xFFFF], what)
+            elif name == "capacity":
+                equal((body[3], back), (7, figures), what)
+            elif body[1] == 3:
+                equal((offset, [float_of(back[:2]), float_of(back[2:])]), (10, figures), what)
+            else:
+                written[name] = float_of(struct.unpack(">HH", body[-4:]))
+                equal((offset, written[name]), (PLACES[name], figures[-1 if name[0] in "xy" else 0]), what)
 
 
 def order(desk, registers, _):
@@ -671,6 +873,16 @@ def flips(desk, _, archive):
             equal(desk.call("power-up 1"), 0, f"power-up after a flip in the free word {word}")
 
 
+def either_framing(desk, registers, archive):
+    """The RTU dialogue of the register manual, sent in ASCII, leaves the worked volume too."""
+    archive.says("A calibration leaves the same words whether its frames came in Modbus RTU or in Modbus ASCII")
+    desk.fresh()
+    for clock, request, reply, _ in registers.dialogue(RTU):
+        body, answer = (bytes.fromhex(text)[:-2] for text in (request, reply))
+        equal(desk.characters(spelled(body), clock), spelled(answer), f"the reply to {request} in ASCII")
+    equal(desk.words(), archive.worked(), "the volume")
+
+
 def row_of_volumes(desk, _, archive):
     """The opening of a volume that follows another is what replay of the other gives, at the words that the manual names."""
     a, b, c, d, e, f, g, h = map(int, archive.says(r"words (\d+) \+ (\d+) × s to (\d+) \+ (\d+) × s and (\d+) \+ (\d+) × s to (\d+) \+ (\d+) × s"))
@@ -689,10 +901,10 @@ def row_of_volumes(desk, _, archive):
 
 CHECKS = {
     "REGISTERS.md": (
-        *(checksum, layouts, order, broadcast, past_the_end, existing, access, parameters, limits),
-        *(readings, in_mode, calibration, restart),
+        *(checksum, layouts, ascii_checksum, lengths, bad_ascii, digits, ascii_exchange, said, order, broadcast, past_the_end),
+        *(existing, access, parameters, limits, readings, in_mode, calibration, restart),
     ),
-    "ARCHIVE.md": (rounding, names, sizes, no_coefficients, third, flips, row_of_volumes),
+    "ARCHIVE.md": (rounding, names, sizes, no_coefficients, third, flips, either_framing, row_of_volumes),
 }
 
 
@@ -704,7 +916,7 @@ def main(desk, registers, archive):
             try:
                 check(desk, registers, archive)
                 print(f"ok     {document}: {check.__name__.replace('_', ' ')}")
-            except (AssertionError, ValueError, LookupError, AttributeError, TypeError) as error:
+            except (AssertionError, ValueError, LookupError, AttributeError, TypeError, struct.error) as error:
                 print(f"FAILED {document}: {check.__name__.replace('_', ' ')}: {error}")
                 failed = True
     return failed
