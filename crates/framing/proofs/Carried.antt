@@ -7,8 +7,7 @@ use native.Mathlib.Omega.{arith}
 use borrow.Author.Tests.{ne-eqb}
 use lib.Dec.{eqb, lit≤}
 use lib.ListN.{length}
-use Rattle.rtu.specs.Frame.{isGood}
-use Rattle.rtu.specs.Frame.{bodyOf as rtuBody}
+use Rattle.rtu.specs.Frame.{isGood, bodyOf as rtuBody}
 use Rattle.rtu.proofs.RoundTrip.{good-least, good-most, body-length}
 use Rattle.ascii.specs.Ascii.{asciiGood, asciiBody}
 use Rattle.ascii.specs.Steps.{goodBody}

@@ -7,8 +7,7 @@ use Prim.Native.Nat.{ℕ, _≤_}
 use native.Mathlib.Omega.{arith}
 use lib.ListN.{length}
 use Rattle.words.specs.Bytes.{Bytes}
-use Rattle.rtu.specs.Frame.{isGood}
-use Rattle.rtu.specs.Frame.{bodyOf as rtuBody}
+use Rattle.rtu.specs.Frame.{isGood, bodyOf as rtuBody}
 use Rattle.rtu.proofs.RoundTrip.{framed-is-good, body-of-framed, good-is-framed, good-least, good-most, body-length, body-bytes}
 use Rattle.ascii.specs.Ascii.{asciiGood, asciiBody}
 use Rattle.ascii.proofs.RoundTrip.{ascii-is-good, body-of-ascii, Good, good-is-ascii}

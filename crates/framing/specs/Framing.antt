@@ -4,8 +4,7 @@
 use mathlib.Core.Bool.{Bool, cond}
 use mathlib.Core.List.{List, []}
 use Prim.Native.Nat.{ℕ}
-use Rattle.rtu.specs.Frame.{isGood, framed}
-use Rattle.rtu.specs.Frame.{bodyOf as rtuBody}
+use Rattle.rtu.specs.Frame.{isGood, framed, bodyOf as rtuBody}
 use Rattle.ascii.specs.Ascii.{asciiGood, asciiBody, asciiFramed}
 
 -- what a frame carries: nothing, as it counts bad, or its body, which is all that its request is judged by
@@ -13,9 +12,11 @@ pub data Carried : Type 0 where
   Bad : Carried
   Body : List ℕ → Carried
 
+-- the body of a frame that keeps to its framing's form and lengths, and has its body's checksum; any other "counts bad"
 abbrev pub carriedIf : Bool → List ℕ → Carried
 carriedIf good body = cond good (Body body) Bad
 
+-- by the framing that the host says the frame has
 unfoldable pub carriedIn : Bool → List ℕ → Carried
 carriedIn ascii frame = cond ascii (carriedIf (asciiGood frame) (asciiBody frame)) (carriedIf (isGood frame) (rtuBody frame))
 

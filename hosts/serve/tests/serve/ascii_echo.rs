@@ -1,34 +1,22 @@
 //! ASCII lines that hand back what they are given. The reply to an update is the update itself here too.
 
+use crate::echo::{self, HANDS_BACK, SLOW_PAUSE, VERSION};
 use crate::harness::{in_ascii, Client, Folder, Server, PAUSE};
 use crate::worked::{bytes, calibrated, preparation, updated, START, UPDATE};
-use serve::sys::open_pty;
 use std::thread::sleep;
 use std::time::Duration;
 
-const VERSION: ([u8; 6], [u8; 5]) = ([1, 3, 0, 0, 0, 1], [1, 3, 2, 0, 3]);
 /// Capacity and entries in use.
 const JOURNAL: ([u8; 6], [u8; 7]) = ([1, 3, 0, 7, 0, 2], [1, 3, 4, 3, 0xE8, 0, 0]);
 /// At 300 baud a reply of 17 characters takes 623 ms with 8 data bits: time enough for an echo on a busy machine.
 const SLOW: &str = "--speed 300 --data-bits 8";
-/// Longer than a reply and the silence after it.
-const SLOW_PAUSE: Duration = Duration::from_millis(1500);
-
-const HANDS_BACK: &str = "serve: the line hands back what is sent; it is dropped. --echo makes sure of it\n";
 
 fn on_pty(words: &str) -> (Folder, Server, Client) {
-    let folder = Folder::new();
-    let server = folder.serve(&format!("--ascii {words}"));
-    let client = server.client();
-    (folder, server, client)
+    echo::on_pty(&format!("--ascii {words}"))
 }
 
-/// The client has the other end of the wire.
 fn on_device(words: &str) -> (Folder, Server, Client) {
-    let folder = Folder::new();
-    let (wire, device) = open_pty().unwrap();
-    let server = folder.serve(&format!("--ascii --device {} {words}", device.display()));
-    (folder, server, Client(wire))
+    echo::on_device(&format!("--ascii {words}"))
 }
 
 /// The reply goes back after so much time.

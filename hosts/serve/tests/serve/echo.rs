@@ -7,17 +7,17 @@ use std::process::Command;
 use std::thread::sleep;
 use std::time::Duration;
 
-const VERSION: ([u8; 6], [u8; 5]) = ([1, 3, 0, 0, 0, 1], [1, 3, 2, 0, 3]);
+pub const VERSION: ([u8; 6], [u8; 5]) = ([1, 3, 0, 0, 0, 1], [1, 3, 2, 0, 3]);
 /// Capacity and entries in use.
 const JOURNAL: [u8; 6] = [1, 3, 0, 7, 0, 2];
 /// At 300 baud a reply of 8 bytes takes 293 ms: with the silence, time enough for an echo on a busy machine.
 const SLOW: &str = "--speed 300 --parity none --silence 600";
 /// Longer than a reply and the silence, and longer than the silence before a reply.
-const SLOW_PAUSE: Duration = Duration::from_millis(1500);
+pub const SLOW_PAUSE: Duration = Duration::from_millis(1500);
 
-const HANDS_BACK: &str = "serve: the line hands back what is sent; it is dropped. --echo makes sure of it\n";
+pub const HANDS_BACK: &str = "serve: the line hands back what is sent; it is dropped. --echo makes sure of it\n";
 
-fn on_pty(words: &str) -> (Folder, Server, Client) {
+pub fn on_pty(words: &str) -> (Folder, Server, Client) {
     let folder = Folder::new();
     let server = folder.serve(words);
     let client = server.client();
@@ -25,7 +25,7 @@ fn on_pty(words: &str) -> (Folder, Server, Client) {
 }
 
 /// The client has the other end of the wire.
-fn on_device(words: &str) -> (Folder, Server, Client) {
+pub fn on_device(words: &str) -> (Folder, Server, Client) {
     let folder = Folder::new();
     let (wire, device) = open_pty().unwrap();
     let server = folder.serve(&format!("--device {} {words}", device.display()));

@@ -1,4 +1,4 @@
--- The number is at most the volume's length by the test, or 0. Assumes nothing.
+-- The number is at most the buffer's length by the test, or 0. Assumes nothing.
 use native.Mathlib.Omega.{arith}
 use mathlib.Core.Path.{sym}
 use lib.Seq.{length-take-le}
