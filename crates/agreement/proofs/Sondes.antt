@@ -26,6 +26,7 @@ use Rattle.state.specs.declared.Counters.{Counters}
 use Rattle.state.specs.declared.Event.{Event}
 use Rattle.state.specs.declared.Sonde.{Sonde}
 use Rattle.service.specs.Calls.{rawsFinite}
+use Rattle.service.proofs.Parts.{valid-sonde}
 use Rattle.agreement.specs.Model.{setupOf, freshSetups, poweredSetups}
 
 -- sensor s beside its setup in the book
@@ -63,7 +64,7 @@ of-four {x1} {x2} {x3} {x4} {y1} {y2} {y3} {y4} address c v m1 m2 m3 m4 =
 pub setup-replaced : (ys : List Setup) (s t : ℕ) (y : Setup) → length ys ≡ 4 → IsSensor s → IsSensor t
     → setupOf (set ys (s - 1) y) t ≡ cond (eqb t s) y (setupOf ys t)
 unfolding setupOf
-setup-replaced ys s t y n k j = replaced-at ys s t y (noSensor .setup) n k j
+setup-replaced ys s t y n k j = replaced-at ys s t y (noSensor .setup) (omega arith) k j
 
 -- ---- measurements and calibrations
 
@@ -94,15 +95,7 @@ powered-matches s k x v f =
 module _ {d : Sonde} {address : ℕ} {ys : List Setup} (m : Matches d address ys) where
   -- it is valid
   pub sonde-valid : validSonde d ≡ true
-  unfolding validSonde
-  sonde-valid =
-      rw (
-        m .address-valid,
-        m .each 1 (omega arith) .valid-sensor,
-        m .each 2 (omega arith) .valid-sensor,
-        m .each 3 (omega arith) .valid-sensor,
-        m .each 4 (omega arith) .valid-sensor,
-      )
+  sonde-valid = valid-sonde d (m .address-valid) (λ s k. m .each s k .valid-sensor)
 
   -- its setups are the book's
   pub setup-same : (s : ℕ) → IsSensor s → setupAt d s ≡ setupOf ys s
@@ -135,7 +128,10 @@ module _ {d : Sonde} {address : ℕ} {ys : List Setup} (m : Matches d address ys
         four-sensors = simp length-set (m .four-sensors);
         four-setups = simp length-set (m .four-setups);
         each = λ t j.
-            rw (replaced-at (d .sensors) s t v noSensor (m .four-sensors) k j, replaced-at ys s t y (noSensor .setup) (m .four-setups) k j)
+            rw (
+              replaced-at (d .sensors) s t v noSensor (omega (arith, m .four-sensors)) k j,
+              replaced-at ys s t y (noSensor .setup) (omega (arith, m .four-setups)) k j,
+            )
             (go t (eqb t s) refl (m .each t j));
       }
     where

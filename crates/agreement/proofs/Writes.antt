@@ -35,7 +35,7 @@ use Rattle.plans.specs.declared.Plan.the-variants.{Writing}
 use Rattle.plans.proofs.Plans.{Located}
 use Rattle.state.specs.Sonde.{sensorAt, setupAt, countedBy}
 use Rattle.state.specs.declared.Event.{Event}
-use Rattle.service.specs.Frame.{firstWord, secondWord, Answer, answer, contextOf, writtenBy, writeAt, carriedOut}
+use Rattle.service.specs.Frame.{firstWord, secondWord, Answer, answer, contextOf, writtenBy, writeAt, isUpdate, carriedOut}
 use Rattle.service.specs.declared.Arrival.{Arrival}
 use Rattle.agreement.specs.Model.{Model, setupOf, hasRoom, writeIn, extended, kept}
 use Rattle.agreement.specs.Runs.{State, state}
@@ -139,7 +139,7 @@ module _ {x : State} {b : Model} (h : Invariant x b) where
   pub write-keeps : (a : Arrival) (hd : Header) (body : List ℕ) (s : ℕ) (f : Field) (v : Value) → Located (f .words) s f
       → Answered b (carriedOut (x .sonde) hd body (x .volume) s (writeAt (x .sonde) (x .volume) a s f v)) (kept b s (writeIn b a s f v))
       (acceptedIn (x .sonde) (contextOf (x .volume) a) (Writing s f v))
-  unfolding carriedOut writtenBy setupAt
+  unfolding carriedOut writtenBy isUpdate setupAt
   write-keeps a hd body s f v l =
       rw (write-same h a s f v l, ← (setup-same (h .matches) s k))
       (record {

@@ -2,14 +2,13 @@
 -- of the volume: no word of a volume is read, and nothing that a frame leaves goes into its entry. Document 01, "Calibration": "An accepted
 -- calibration is a frame that counts good, own address or 0, that writes 0xE001 to a command register and meets no refusal below, whether or
 -- not a reply is sent." Assumes nothing.
-use mathlib.Core.Bool.{_&&_, cond}
+use mathlib.Core.Bool.{cond}
 use mathlib.Core.List.{List, [], _∷_, _++_}
 use lib.Dec.{eqb, ltb}
 use lib.ListN.{length}
 use Rattle.framing.specs.Framing.{carriedIn, roomIn}
 use Rattle.entries.specs.declared.Entry.{Entry}
 use Rattle.journal.specs.Words.{capacityOf}
-use Rattle.registers.specs.Registers.{sensorRegister}
 use Rattle.commands.specs.Commands.{context, acceptedUpdate}
 use Rattle.commands.specs.declared.Context.{Context}
 use Rattle.plans.specs.declared.Plan.{Plan}
@@ -17,21 +16,20 @@ use Rattle.plans.specs.declared.Plan.the-variants.{Bad, Foreign, BroadcastRead,
 use Rattle.state.specs.Sonde.{sensorAt, setupAt}
 use Rattle.state.specs.declared.Sonde.{Sonde}
 use Rattle.service.specs.Calls.{beginOf}
-use Rattle.service.specs.Frame.{planFor, firstWord}
+use Rattle.service.specs.Frame.{planFor, isUpdate}
 use Rattle.service.specs.declared.Arrival.{Arrival}
 use Rattle.agreement.specs.Runs.{Call, State, after}
 use Rattle.agreement.specs.Runs.Call.{Frame, Measure, PowerUp, Begin}
 
--- the entry of what a frame asks for, if it is accepted: 0xE001 to a command register ("5 command"), by functions 6 and 16 or by a mask, in
--- mode, of an accepted candidate, with an entry spare. A plan to write is of a frame that counts good, for the sonde's own address or 0.
+-- the entry of what a frame asks for, if it is accepted: 0xE001 to a command register, in mode, of an accepted candidate, with an entry spare. A
+-- plan to write is of a frame that counts good, for the sonde's own address or 0.
 abbrev pub acceptedIn : Sonde → Context → Plan → List Entry
 acceptedIn d c Bad = []
 acceptedIn d c Foreign = []
 acceptedIn d c BroadcastRead = []
 acceptedIn d c (Refused code) = []
 acceptedIn d c (Reading start count) = []
-acceptedIn d c (Writing s f v) =
-    cond (eqb (f .offset) 5 && eqb (firstWord (sensorRegister s (sensorAt d s) (f .offset)) v) 0xE001) (acceptedUpdate s (setupAt d s) c) []
+acceptedIn d c (Writing s f v) = cond (isUpdate s (sensorAt d s) f v) (acceptedUpdate s (setupAt d s) c) []
 
 -- what an update takes from outside the setup: an entry is spare where fewer were accepted than the volume's length has room for
 abbrev pub contextAfter : List Entry → State → Arrival → Context

@@ -84,12 +84,13 @@ writeIn b a s f v = writtenBy s (record { setup = setupOf (b .setups) s; sample 
 abbrev pub extended : Journal → List Entry → Journal
 extended j es = record { capacity = j .capacity; opening = j .opening; entries = j .entries ++ es }
 
--- "A write that meets no refusal is carried out on these, and an update adds its entry at the end of the list"; one that is refused leaves
--- its sensor's setup and adds none
+-- "A write that meets no refusal is carried out on these, and an update adds its entry at the end of the list". One that is refused adds none and
+-- leaves its sensor's setup; document 02, wish 2: the book follows "this one exception", so that an update refused for its limits alone puts the
+-- candidate in the book's trial figures (`setupAfter`)
 abbrev pub kept : Model → ℕ → Written → Model
 kept b s x = model (b .address) (set (b .setups) (s - 1) (setupAfter (setupOf (b .setups) s) x)) (extended (b .journal) (entriesOf x))
 
--- "a frame that is bad, another's or a read: nothing"
+-- "a frame that is bad, another's or a read: nothing"; what a plan refuses is no update
 abbrev pub modelPlanned : Model → Arrival → Plan → Model
 modelPlanned b a Bad = b
 modelPlanned b a Foreign = b

@@ -10,11 +10,11 @@ use Rattle.methods.specs.declared.Verdict.{Verdict}
 use Rattle.methods.specs.declared.Verdict.the-variants.{Accepted, OutsideLimits, NotFinite, Undefined}
 use Rattle.entries.specs.Entries.{entryOf}
 use Rattle.entries.specs.declared.Entry.{Entry}
-use Rattle.sensors.specs.Changes.{restarted, calibratedAt}
+use Rattle.sensors.specs.Changes.{withTrial, restarted, calibratedAt}
 use Rattle.sensors.specs.declared.Setup.{Setup}
 use Rattle.commands.specs.declared.Context.{Context}
 use Rattle.commands.specs.declared.Written.{Written}
-use Rattle.commands.specs.declared.Written.the-variants.{Refused, Stored, Updated}
+use Rattle.commands.specs.declared.Written.the-variants.{Refused, Failed, Stored, Updated}
 
 abbrev pub context : ℕ → Bool → Context
 context clock spare = record { clock = clock; spare = spare }
@@ -24,18 +24,22 @@ context clock spare = record { clock = clock; spare = spare }
 -- document 01's code for each answer; 0 is no refusal
 abbrev pub codeOf : Written → ℕ
 codeOf (Refused code) = code
+codeOf (Failed t) = 0x97
 codeOf (Stored s) = 0
 codeOf (Updated s e) = 0
 
--- the setup that an answer leaves, s being the one before; demand 1: "a code changes only the message counters"
+-- the setup that an answer leaves, s being the one before; demand 1: "a code changes only the message counters", with the one exception of
+-- document 02, wish 2: "an update that is refused for its limits alone puts the candidate in the trial figures"
 abbrev pub setupAfter : Setup → Written → Setup
 setupAfter s (Refused code) = s
+setupAfter s (Failed t) = t
 setupAfter s (Stored t) = t
 setupAfter s (Updated t e) = t
 
 -- the entries that it appends
 abbrev pub entriesOf : Written → List Entry
 entriesOf (Refused code) = []
+entriesOf (Failed t) = []
 entriesOf (Stored t) = []
 entriesOf (Updated t e) = e ∷ []
 
@@ -45,11 +49,12 @@ entriesOf (Updated t e) = e ∷ []
 abbrev pub methodSet : Setup → Method
 methodSet s = methodOf (s .procedure .method) (s .procedure .trial) (s .procedure .points)
 
--- "A full journal is 0xC0. Else .. one entry is appended"; a candidate that isn't accepted is refused by its verdict's code, 0x97
+-- "A full journal is 0xC0. Else .. one entry is appended"; a candidate that isn't accepted is 0x97, before the journal's room is asked for. Document
+-- 02, wish 2: one refused for its limits alone is kept, "Equal points and results that aren't finite still change nothing"
 abbrev pub judgedUpdate : ℕ → Setup → Context → Verdict → Written
 judgedUpdate sensor s context (Accepted c) =
     cond (context .spare) (Updated (calibratedAt s c (context .clock)) (entryOf sensor (methodSet s) c (context .clock))) (Refused 0xC0)
-judgedUpdate sensor s context (OutsideLimits c) = Refused (verdictCode (OutsideLimits c))
+judgedUpdate sensor s context (OutsideLimits c) = Failed (withTrial s c)
 judgedUpdate sensor s context NotFinite = Refused (verdictCode NotFinite)
 judgedUpdate sensor s context Undefined = Refused (verdictCode Undefined)
 
@@ -65,6 +70,20 @@ commanded sensor s value context =
     (cond (eqb value 0xE001) (updated sensor s context)
     (cond (eqb value 0xE002) (cond (s .procedure .calibrating) (Stored (restarted s false)) (Stored s))
     (Refused 0x84)))
+
+-- ---- an update that is refused
+
+-- document 02, wish 2: "an update that is refused for its limits alone puts the candidate in the trial figures. Equal points and results that aren't
+-- finite still change nothing"; nor does a full journal (0xC0)
+abbrev pub triedBy : Setup → Verdict → Setup
+triedBy s (Accepted c) = s
+triedBy s (OutsideLimits c) = withTrial s c
+triedBy s NotFinite = s
+triedBy s Undefined = s
+
+-- the setup that a refused update leaves; mode off (0x92) changes nothing
+unfoldable pub refusedUpdate : ℕ → Setup → Setup
+refusedUpdate sensor s = cond (s .procedure .calibrating) (triedBy s (judgedOf sensor (methodSet s))) s
 
 -- ---- an accepted calibration
 

@@ -1,5 +1,5 @@
-// The commands of a calibration, and what a write answers: refused by a code, the new setup, or for an update the new setup and the entry to
-// append.
+// The commands of a calibration, and what a write answers: refused by a code, the setup that a failed update leaves, the new setup, or for an
+// accepted update the new setup and the entry to append.
 ghost use mathlib.Core.Path.{_≡_};
 ghost use Rattle.commands.specs.Commands.{updated, commanded, codeOf, setupAfter};
 use entries::Entry;
@@ -18,6 +18,8 @@ pub struct Context {
 
 pub enum Written {
     Refused(u8),
+    // An update that is refused for its limits alone (0x97), with its candidate in the trial coefficients.
+    Failed(Setup),
     Stored(Setup),
     Updated(Setup, Entry),
 }
@@ -28,6 +30,7 @@ pub fn code_of(w: Written) -> u8
 {
     match w {
         Written::Refused(code) => code,
+        Written::Failed(_) => codes::INVALID_CALIBRATION,
         Written::Stored(_) => 0,
         Written::Updated(_, _) => 0,
     }
@@ -39,6 +42,7 @@ pub fn setup_after(w: Written, s: Setup) -> Setup
 {
     match w {
         Written::Refused(_) => s,
+        Written::Failed(t) => t,
         Written::Stored(t) => t,
         Written::Updated(t, _) => t,
     }
@@ -66,6 +70,7 @@ fn update(sensor: u16, s: Setup, context: Context) -> Written
                 entry_of(sensor, m, c, context.clock),
             )
         }
+        Verdict::OutsideLimits(c) => Written::Failed(s.with_trial(c)),
         _ => Written::Refused(methods::code_of(verdict)),
     }
 }

@@ -1,14 +1,15 @@
 -- All of document 01's starred cases hold, and those of document 02's wishes, by computation on the definitions. Assumes nothing.
 use mathlib.Core.Path.{refl}
 use lib.Ieee.{ofBits, toBits, sub, mul, div, le}
+use Rattle.words.specs.Bytes.{bytesOf}
 use Rattle.words.specs.Mask.{maskedOf}
 use Rattle.rtu.specs.Crc.{crcBit, crcBits, crcByte, crcFrom, crcOf}
 use Rattle.words.specs.Overlay.{overlay}
 use Rattle.rtu.specs.Frame.{checksumOf, framed, bodyOf, isGood}
 use Rattle.ascii.specs.Ascii.{sumOf, lrcOf, hexDigit, valueOf, digits, hexOf, spelt, asciiFramed, charsOf, decodedBytes, asciiBody, enclosed, checked, asciiGood}
 use Rattle.framing.specs.Framing.{carriedIn, framedIn, roomIn}
-use Rattle.modbus.specs.Request.{writeOneOf, writeMaskOf, requestOf}
-use Rattle.replies.specs.Reply.{writtenBody, markedOf, exceptionBody, replyOf}
+use Rattle.modbus.specs.Request.{readOf, writeOneOf, writeManyOf, writeMaskOf, requestOf}
+use Rattle.replies.specs.Reply.{readBody, writtenBody, markedOf, exceptionBody, replyOf}
 use Rattle.floats.specs.Floats.{near, nearMinus, finite, floatOf, highWord, lowWord, sameBits, isPlusZero}
 use Rattle.coefficients.specs.Coefficients.{allFinite, sameCoefficients, sameCalibration, defaultsOf, inLimits}
 use Rattle.methods.specs.Methods.{methodOf, candidateOf, verdictOf, judgedOf}
@@ -22,30 +23,32 @@ use Rattle.parameters.specs.Parameters.{idOf, defaultUnits, unitsAllowed, level
 use Rattle.fields.specs.Fields.{ownerBit, owns, holds, exactly, fieldAt, wholeField, spanOf}
 use Rattle.sensors.specs.Sensors.{freshParameter, freshParameters, freshSetup, freshSensor, unitsValid, levelValid, validParameter, validParameters, validProcedure, validSetup, validSensor}
 use Rattle.sensors.specs.Changes.{newProcedure, restarted, calibratedAt, sensorWithSetup}
-use Rattle.registers.specs.Registers.{modeOf, headRegister, sensorRegister}
+use Rattle.registers.specs.Registers.{modeOf, shownCoefficients, coefficientRegister, headRegister, sensorRegister, registerOf}
 use Rattle.commands.specs.Commands.{updated, commanded}
-use Rattle.writes.specs.Writes.{fieldWritten, writeOf}
-use Rattle.plans.specs.Plans.{targetOf, planOf}
+use Rattle.writes.specs.Writes.{methodWritten, pointAt, withFloat, floatWritten, fieldWritten, writeOf}
+use Rattle.plans.specs.Plans.{targetOf, readPlan, planOf}
 use Rattle.state.specs.Sonde.{freshCounters, incremented, freshSonde, sensorAt, setupAt, withSensor, withSetup, countedBy, addressValid, validSonde}
 use Rattle.service.specs.Agrees.{openings, sameCalibrations, journalAgrees, agrees}
 use Rattle.service.specs.Calls.{beginOf}
+use Rattle.service.specs.Reads.{deviceOf, registerAt, readingBody}
 use Rattle.service.specs.Frame.{sent, writeBody, writtenBy, carriedOut, answerOf, left, frameOf}
-use Rattle.conformance.specs.Cases.{Cases, worked, told, begunWith, beginTold, asked, next, nextAscii, frameTold, inMode}
+use Rattle.conformance.specs.Cases.{Cases, worked, told, begunWith, beginTold, asked, next, nextAscii, frameTold, inMode, tenAtEight, failed}
 
 pub cases : Cases
 unfolding crcBit crcBits crcByte crcFrom crcOf checksumOf framed bodyOf isGood overlay
     sumOf lrcOf hexDigit valueOf digits hexOf spelt asciiFramed charsOf decodedBytes asciiBody enclosed checked asciiGood carriedIn framedIn roomIn
-    writeOneOf writeMaskOf requestOf maskedOf writtenBody markedOf exceptionBody
+    bytesOf readOf writeOneOf writeManyOf writeMaskOf requestOf maskedOf readBody writtenBody markedOf exceptionBody
     ofBits toBits sub mul div le near nearMinus finite floatOf highWord lowWord sameBits isPlusZero
     allFinite sameCoefficients sameCalibration defaultsOf inLimits methodOf candidateOf verdictOf judgedOf
     methodAllowed pointsFinite samePoints validEntry replacedBy capacityOf entryWords numberAt floatAt entryAt validCalibration header beginWords storesOf appendOf spareIn
     validHeader openingAt validOpenings validEntryAt chainOf validLink validChain validChains validEntries valid replayOf replays
     idOf defaultUnits unitsAllowed levelAllowed ownerBit owns holds exactly fieldAt wholeField spanOf
     newProcedure freshParameter freshParameters freshSetup freshSensor unitsValid levelValid validParameter validParameters validProcedure validSetup validSensor restarted calibratedAt sensorWithSetup
-    modeOf headRegister sensorRegister updated commanded fieldWritten writeOf targetOf planOf
+    modeOf shownCoefficients coefficientRegister headRegister sensorRegister registerOf updated commanded
+    methodWritten pointAt withFloat floatWritten fieldWritten writeOf targetOf readPlan planOf
     freshCounters incremented freshSonde sensorAt setupAt withSensor withSetup countedBy addressValid validSonde
-    openings sameCalibrations journalAgrees agrees beginOf sent writeBody writtenBy carriedOut answerOf replyOf left frameOf
-    worked told begunWith beginTold asked next nextAscii frameTold inMode
+    openings sameCalibrations journalAgrees agrees beginOf deviceOf registerAt readingBody sent writeBody writtenBy carriedOut answerOf replyOf left frameOf
+    worked told begunWith beginTold asked next nextAscii frameTold inMode tenAtEight failed
 cases =
     record {
       crc-of-digits = refl;
@@ -67,4 +70,10 @@ cases =
       full-after-ascii = refl;
       small-digits = refl;
       small-counted = refl;
+      slope-failed = refl;
+      slope-shown = refl;
+      slope-kept = refl;
+      slope-corrected = refl;
+      equal-failed = refl;
+      equal-kept = refl;
     }

@@ -2,20 +2,21 @@
 -- contracts cite. Assumes nothing.
 use mathlib.Core.Path.{_≡_}
 use mathlib.Core.Bool.{true, false}
-use mathlib.Core.List.{List, [], _∷_}
+use mathlib.Core.List.{List, [], _∷_, _++_}
 use Prim.Native.Nat.{ℕ}
 use lib.ListN.{getD, take, replicate}
 use lib.Ieee.{Float, binary32, ofBits, toBits}
 use Rattle.rtu.specs.Crc.{crcOf}
 use Rattle.floats.specs.Floats.{near, plusZero}
 use Rattle.methods.specs.Methods.{candidateOf, judgedOf, codeOf}
+use Rattle.coefficients.specs.Coefficients.{coefficientsOf}
 use Rattle.coefficients.specs.declared.Coefficients.{Coefficients}
 use Rattle.methods.specs.declared.Method.the-variants.{Direct, OnePoint, TwoPoints}
 use Rattle.methods.specs.declared.Candidate.{Candidate}
 use Rattle.methods.specs.declared.Candidate.the-variants.{Made, ZeroX, SameX}
 use Rattle.methods.specs.declared.Verdict.{Verdict}
 use Rattle.methods.specs.declared.Verdict.the-variants.{Accepted, OutsideLimits, NotFinite, Undefined}
-use Rattle.state.specs.Sonde.{freshSonde}
+use Rattle.state.specs.Sonde.{freshSonde, setupAt}
 use Rattle.state.specs.declared.Sonde.{Sonde}
 use Rattle.service.specs.Calls.{Begun, beginOf}
 use Rattle.service.specs.Frame.{Outcome, arrival, frameOf}
@@ -84,6 +85,42 @@ updateSmall = 0x3A ∷ 0x30 ∷ 0x31 ∷ 0x30 ∷ 0x36 ∷ 0x30 ∷ 0x30 ∷ 0x3
 abbrev pub fullAscii : List ℕ
 fullAscii = 0x3A ∷ 0x30 ∷ 0x31 ∷ 0x38 ∷ 0x36 ∷ 0x43 ∷ 0x30 ∷ 0x42 ∷ 0x39 ∷ 0x0D ∷ 0x0A ∷ []
 
+-- to sensor 2: mode on, two points, x1 = 8 with y1 = 10 or 9, and x2 = 8 for 0; update; the read of its coefficients
+abbrev pub oxygenMode : List ℕ
+oxygenMode = 0x01 ∷ 0x06 ∷ 0x00 ∷ 0xCD ∷ 0xE0 ∷ 0x00 ∷ 0x51 ∷ 0xF5 ∷ []
+
+abbrev pub byTwoPoints : List ℕ
+byTwoPoints = 0x01 ∷ 0x06 ∷ 0x00 ∷ 0xCE ∷ 0x00 ∷ 0x02 ∷ 0x69 ∷ 0xF4 ∷ []
+
+abbrev pub eightX1 : List ℕ
+eightX1 = 0x01 ∷ 0x10 ∷ 0x00 ∷ 0xD8 ∷ 0x00 ∷ 0x02 ∷ 0x04 ∷ 0x41 ∷ 0x00 ∷ 0x00 ∷ 0x00 ∷ 0xEB ∷ 0x69 ∷ []
+
+abbrev pub tenY1 : List ℕ
+tenY1 = 0x01 ∷ 0x10 ∷ 0x00 ∷ 0xDA ∷ 0x00 ∷ 0x02 ∷ 0x04 ∷ 0x41 ∷ 0x20 ∷ 0x00 ∷ 0x00 ∷ 0x6B ∷ 0x7A ∷ []
+
+abbrev pub nineY1 : List ℕ
+nineY1 = 0x01 ∷ 0x10 ∷ 0x00 ∷ 0xDA ∷ 0x00 ∷ 0x02 ∷ 0x04 ∷ 0x41 ∷ 0x10 ∷ 0x00 ∷ 0x00 ∷ 0x6B ∷ 0x75 ∷ []
+
+abbrev pub eightX2 : List ℕ
+eightX2 = 0x01 ∷ 0x10 ∷ 0x00 ∷ 0xDC ∷ 0x00 ∷ 0x02 ∷ 0x04 ∷ 0x41 ∷ 0x00 ∷ 0x00 ∷ 0x00 ∷ 0xEA ∷ 0x9A ∷ []
+
+abbrev pub oxygenUpdate : List ℕ
+oxygenUpdate = 0x01 ∷ 0x06 ∷ 0x00 ∷ 0xCD ∷ 0xE0 ∷ 0x01 ∷ 0x90 ∷ 0x35 ∷ []
+
+abbrev pub oxygenRead : List ℕ
+oxygenRead = 0x01 ∷ 0x03 ∷ 0x00 ∷ 0xD2 ∷ 0x00 ∷ 0x04 ∷ 0xE4 ∷ 0x30 ∷ []
+
+-- the exception 0x97 to the update
+abbrev pub outsideLimits : List ℕ
+outsideLimits = 0x01 ∷ 0x86 ∷ 0x97 ∷ 0x03 ∷ 0xCE ∷ []
+
+-- the sonde with the points (8, 10), (0, 0), and what its update leaves
+unfoldable pub tenAtEight : Outcome
+tenAtEight = next (next (next (asked (freshSonde 1) (begunWith 88 .volume) oxygenMode) byTwoPoints) eightX1) tenY1
+
+unfoldable pub failed : Outcome
+failed = next tenAtEight oxygenUpdate
+
 -- the sonde in mode, with one entry spare
 unfoldable pub inMode : Outcome
 inMode = asked (freshSonde 1) (begunWith 88 .volume) modeOn
@@ -120,3 +157,13 @@ pub record Cases : Type 0 where
   -- "capital hexadecimal digits": small ones are bad, without reply
   pub small-digits : frameTold (nextAscii inMode updateSmall) ≡ 0 ∷ 0 ∷ []
   pub small-counted : nextAscii inMode updateSmall .sonde .counters .bad ≡ 1
+  -- document 02, wish 2: "an update that is refused for its limits alone puts the candidate in the trial figures": the slope 1.25 is read back,
+  pub slope-failed : frameTold failed ≡ 0 ∷ 0 ∷ outsideLimits
+  pub slope-shown : frameTold (next failed oxygenRead) ≡ 0 ∷ 0 ∷ 0x01 ∷ 0x03 ∷ 0x08 ∷ 0x00 ∷ 0x00 ∷ 0x00 ∷ 0x00 ∷ 0x3F ∷ 0xA0 ∷ 0x00 ∷ 0x00 ∷ 0x99 ∷ 0xE1 ∷ []
+  -- "In force and journal are as before"
+  pub slope-kept : bits (setupAt (failed .sonde) 2 .procedure .trial) ++ bits (coefficientsOf (setupAt (failed .sonde) 2 .active .calibration))
+      ≡ 0 ∷ 0x3FA00000 ∷ 0 ∷ 0 ∷ 0x3F800000 ∷ 0 ∷ []
+  -- a corrected point is accepted, and equal points "still change nothing"
+  pub slope-corrected : frameTold (next (next failed nineY1) oxygenUpdate) ≡ 0 ∷ 1 ∷ oxygenUpdate
+  pub equal-failed : frameTold (next (next failed eightX2) oxygenUpdate) ≡ 0 ∷ 0 ∷ outsideLimits
+  pub equal-kept : bits (setupAt (next (next tenAtEight eightX2) oxygenUpdate .sonde) 2 .procedure .trial) ≡ 0 ∷ 0x3F800000 ∷ 0 ∷ []

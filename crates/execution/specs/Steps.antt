@@ -10,7 +10,7 @@ use Rattle.sensors.specs.declared.Sensor.{Sensor}
 use Rattle.modbus.specs.declared.Header.{Header}
 use Rattle.commands.specs.Commands.{codeOf, setupAfter, entriesOf}
 use Rattle.commands.specs.declared.Written.{Written}
-use Rattle.commands.specs.declared.Written.the-variants.{Refused, Stored, Updated}
+use Rattle.commands.specs.declared.Written.the-variants.{Refused, Failed, Stored, Updated}
 use Rattle.state.specs.declared.Event.{Event}
 use Rattle.service.specs.Frame.{eventOf, writeBody}
 use Rattle.execution.specs.declared.Change.{Change}
@@ -37,5 +37,6 @@ writeStep h body w s y = step (eventOf (codeOf y)) (writeBody h body (codeOf y))
 -- an entry that is to be appended has room, and a sensor
 abbrev pub Appendable : List ℕ → Written → Type 0
 Appendable w (Refused code) = Unit {0}
+Appendable w (Failed t) = Unit {0}
 Appendable w (Stored t) = Unit {0}
 Appendable w (Updated t e) = IsSensor (e .sensor) × (getD w 2 0 < getD w 1 0)

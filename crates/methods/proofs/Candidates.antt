@@ -22,28 +22,47 @@ use Rattle.methods.specs.declared.Verdict.the-variants.{Accepted, Outsid
 use Rattle.coefficients.proofs.Bits.{CoefficientsFit}
 use Rattle.coefficients.proofs.Limits.{limits-finite}
 
--- ---- acceptance
+-- ---- the verdict on a candidate
 
--- what is accepted of a method on a sensor: the candidate that it makes, finite and in the sensor's limits
-pub record Acceptance (s : ℕ) (m : Method) (c : Coefficients) : Type 0 where
+-- what is told of a candidate by whether it is within the sensor's limits: the method makes it, and it is finite
+pub record Judged (s : ℕ) (m : Method) (c : Coefficients) (within : Bool) : Type 0 where
   pub all-finite : allFinite c ≡ true
-  pub in-limits : inLimits s c ≡ true
+  pub limits : inLimits s c ≡ within
   pub made : candidateOf m ≡ Made c
 
--- a verdict that accepts says so
-pub accepted : (s : ℕ) (m : Method) (c : Coefficients) → judgedOf s m ≡ Accepted c → Acceptance s m c
-unfolding judgedOf verdictOf
-accepted s m c = of (candidateOf m) refl
-  where
-    within : (d : Coefficients) (f l : Bool) → candidateOf m ≡ Made d → allFinite d ≡ f → inLimits s d ≡ l → cond f (cond l (Accepted d) (OutsideLimits d)) NotFinite ≡ Accepted c → Acceptance s m c
-    within d true true k f l e = record { all-finite = cc; in-limits = cc; made = cc }
-    within d true false k f l e = let z : _≡_ {A = ℕ} 0 1 = cc in absurd (omega arith)
-    within d false l₀ k f l e = let z : _≡_ {A = ℕ} 0 1 = cc in absurd (omega arith)
+module _ (s : ℕ) (m : Method) (c : Coefficients) where
+  judged : (within : Bool) → judgedOf s m ≡ cond within (Accepted c) (OutsideLimits c) → Judged s m c within
+  unfolding judgedOf verdictOf
+  judged within = of within (candidateOf m) refl
+    where
+      limited : (w : Bool) (d : Coefficients) (f l : Bool) → candidateOf m ≡ Made d → allFinite d ≡ f → inLimits s d ≡ l
+          → cond f (cond l (Accepted d) (OutsideLimits d)) NotFinite ≡ cond w (Accepted c) (OutsideLimits c) → Judged s m c w
+      limited true d true true k f l e = record { all-finite = cc; limits = cc; made = cc }
+      limited false d true false k f l e = record { all-finite = cc; limits = cc; made = cc }
+      limited true d true false k f l e = let z : _≡_ {A = ℕ} 0 1 = cc in absurd (omega arith)
+      limited false d true true k f l e = let z : _≡_ {A = ℕ} 0 1 = cc in absurd (omega arith)
+      limited true d false l₀ k f l e = let z : _≡_ {A = ℕ} 0 1 = cc in absurd (omega arith)
+      limited false d false l₀ k f l e = let z : _≡_ {A = ℕ} 0 1 = cc in absurd (omega arith)
 
-    of : (k : Candidate) → candidateOf m ≡ k → verdictOf s k ≡ Accepted c → Acceptance s m c
-    of (Made d) k e = within d (allFinite d) (inLimits s d) k refl refl e
-    of ZeroX k e = let z : _≡_ {A = ℕ} 0 1 = cc in absurd (omega arith)
-    of SameX k e = let z : _≡_ {A = ℕ} 0 1 = cc in absurd (omega arith)
+      of : (w : Bool) (k : Candidate) → candidateOf m ≡ k → verdictOf s k ≡ cond w (Accepted c) (OutsideLimits c) → Judged s m c w
+      of w (Made d) k e = limited w d (allFinite d) (inLimits s d) k refl refl e
+      of true ZeroX k e = let z : _≡_ {A = ℕ} 0 1 = cc in absurd (omega arith)
+      of false ZeroX k e = let z : _≡_ {A = ℕ} 0 1 = cc in absurd (omega arith)
+      of true SameX k e = let z : _≡_ {A = ℕ} 0 1 = cc in absurd (omega arith)
+      of false SameX k e = let z : _≡_ {A = ℕ} 0 1 = cc in absurd (omega arith)
+
+  -- what is accepted is within the limits
+  pub accepted : judgedOf s m ≡ Accepted c → Judged s m c true
+  accepted = judged true
+
+  -- what is refused for its limits alone is finite and outside them
+  pub outside-limits : judgedOf s m ≡ OutsideLimits c → Judged s m c false
+  outside-limits = judged false
+
+  -- and each finite candidate outside them is
+  pub fails : candidateOf m ≡ Made c → allFinite c ≡ true → inLimits s c ≡ false → judgedOf s m ≡ OutsideLimits c
+  unfolding judgedOf verdictOf
+  fails k f l = rw (k, f, l)
 
 -- a candidate in limits is accepted
 pub accepts : (s : ℕ) (m : Method) (c : Coefficients) → candidateOf m ≡ Made c → inLimits s c ≡ true → judgedOf s m ≡ Accepted c
@@ -118,9 +137,8 @@ candidate-fits (TwoPoints x1 y1 x2 y2) t =
       fits-coefficient3 = ofBits-fits binary32 0;
     })
 
--- accepted coefficients fit the format
-pub accepted-fits : (s : ℕ) (m : Method) (c : Coefficients) → MethodFits m → judgedOf s m ≡ Accepted c → CoefficientsFit c
-accepted-fits s m c t e = rw (accepted s m c e .made) at (candidate-fits m t)
+pub made-fits : (m : Method) (c : Coefficients) → MethodFits m → candidateOf m ≡ Made c → CoefficientsFit c
+made-fits m c t e = rw e at (candidate-fits m t)
 
 -- a method of coefficients and points that fit the format
 pub method-fits : (n : ℕ) (c : Coefficients) (p : Points) → CoefficientsFit c → PointsFit p → MethodFits (methodOf n c p)

@@ -13,7 +13,7 @@ use Rattle.coefficients.specs.declared.Coefficients.{Coefficients}
 use Rattle.coefficients.proofs.Bits.{CoefficientsFit}
 use Rattle.parameters.specs.Parameters.{idOf, unitsAllowed, levelAllowed}
 use Rattle.sensors.specs.Sensors.{unitsValid, levelValid, validParameter, validParameters, validProcedure, validSetup, validSensor}
-use Rattle.sensors.specs.Changes.{active, withProcedure, withActive, withParameters, withLevel, restarted, calibratedAt, withParameter, sample, measuredOf, measuredSensor}
+use Rattle.sensors.specs.Changes.{active, withProcedure, withActive, withParameters, withTrial, withLevel, restarted, calibratedAt, withParameter, sample, measuredOf, measuredSensor}
 use Rattle.sensors.specs.declared.Parameter.{Parameter}
 use Rattle.sensors.specs.declared.Parameters.{Parameters}
 use Rattle.sensors.specs.declared.Procedure.{Procedure}
@@ -46,18 +46,19 @@ module _ (s : ℕ) (x : Setup) (h : validSetup s x ≡ true) where
   unfolding restarted
   restarted-valid mode = with-procedure-valid _ (new-procedure-valid s mode _ (active-parts s x h .0))
 
+  -- other trial coefficients that are finite
+  pub with-trial-valid : (c : Coefficients) → allFinite c ≡ true → validSetup s (withTrial x c) ≡ true
+  with-trial-valid c f =
+      let p = valid-procedure-parts s (x .procedure) (valid-setup-parts s x h .procedure-valid) in
+      with-procedure-valid _ (valid-procedure s _ (record { trial-finite = f; points-finite = p .points-finite; method-allowed = p .method-allowed }))
+
   -- coefficients in limits come into force
   pub calibrated-valid : (c : Coefficients) (clock : ℕ) → allFinite c ≡ true → inLimits s c ≡ true → validSetup s (calibratedAt x c clock) ≡ true
   unfolding calibratedAt
   calibrated-valid c clock f l =
-      let w = valid-setup-parts s x h in
-      let p = valid-procedure-parts s (x .procedure) (w .procedure-valid) in
+      let w = valid-setup-parts s (withTrial x c) (with-trial-valid c f) in
       valid-setup s (calibratedAt x c clock)
-      (record {
-        calibration-valid = valid-calibration s (calibrationOf c clock) l;
-        procedure-valid = valid-procedure s _ (record { trial-finite = f; points-finite = p .points-finite; method-allowed = p .method-allowed });
-        parameters-valid = w .parameters-valid;
-      })
+      (record { calibration-valid = valid-calibration s (calibrationOf c clock) l; procedure-valid = w .procedure-valid; parameters-valid = w .parameters-valid })
 
 module _ (s : ℕ) (q : Parameters) (h : validParameters s q ≡ true) where
   v : ValidParameters s q
@@ -121,13 +122,17 @@ module _ (x : Setup) (v : SetupFits x) where
   unfolding restarted
   restarted-fits mode = with-procedure-fits _ (new-procedure-fits mode _ (v .fits-calibration))
 
+  -- other trial coefficients
+  pub with-trial-fits : (c : Coefficients) → CoefficientsFit c → SetupFits (withTrial x c)
+  with-trial-fits c f = with-procedure-fits _ (record { fits-trial = f; fits-points = v .fits-procedure .fits-points })
+
   -- coefficients of the format come into force
   pub calibrated-fits : (c : Coefficients) (clock : ℕ) → CoefficientsFit c → SetupFits (calibratedAt x c clock)
   unfolding calibratedAt
   calibrated-fits c clock f =
       record {
         fits-calibration = record { fits-coefficient1 = f .fits-coefficient1; fits-coefficient2 = f .fits-coefficient2; fits-coefficient3 = f .fits-coefficient3 };
-        fits-procedure = record { fits-trial = f; fits-points = v .fits-procedure .fits-points };
+        fits-procedure = with-trial-fits c f .fits-procedure;
         fits-parameters = v .fits-parameters;
       }
 

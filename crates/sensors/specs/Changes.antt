@@ -48,8 +48,9 @@ withParameters s q = setup (s .procedure) (s .active) q
 unfoldable pub newProcedure : Bool → Coefficients → Procedure
 newProcedure calibrating c = procedure calibrating c 0 (points plusZero plusZero plusZero plusZero)
 
-abbrev pub withTrial : Procedure → Coefficients → Procedure
-withTrial p c = procedure (p .calibrating) c (p .method) (p .points)
+-- other trial coefficients alone; what is active stays
+abbrev pub withTrial : Setup → Coefficients → Setup
+withTrial s c = withProcedure s (procedure (s .procedure .calibrating) c (s .procedure .method) (s .procedure .points))
 
 abbrev pub withPoints : Procedure → Points → Procedure
 withPoints p q = procedure (p .calibrating) (p .trial) (p .method) q
@@ -60,7 +61,7 @@ restarted s calibrating = withProcedure s (newProcedure calibrating (coefficient
 
 -- "the candidate becomes in force and trial, last calibration := clock, next := 0, .. mode stays on"
 unfoldable pub calibratedAt : Setup → Coefficients → ℕ → Setup
-calibratedAt s c clock = setup (withTrial (s .procedure) c) (active (calibrationOf c clock) 0) (s .parameters)
+calibratedAt s c clock = withActive (withTrial s c) (active (calibrationOf c clock) 0)
 
 -- ---- parameters
 

@@ -1,6 +1,6 @@
 // The state of one sensor: what frames write and a calibration decides, and what measurements write.
 ghost use mathlib.Core.Path.{_≡_};
-ghost use Rattle.sensors.specs.Changes.{newProcedure, withParameter, restarted, calibratedAt, measuredOf, measuredSensor, sensorWithSetup};
+ghost use Rattle.sensors.specs.Changes.{newProcedure, withTrial, withParameter, restarted, calibratedAt, measuredOf, measuredSensor, sensorWithSetup};
 ghost use Rattle.sensors.specs.Sensors.{parameterOf, freshParameter, freshParameters, freshSetup, poweredSetup, freshSample, freshSensor, unitsValid, levelValid, validProcedure, validParameter, validParameters, validSetup, validSensor};
 use coefficients::Calibration;
 use coefficients::Coefficients;
@@ -209,19 +209,27 @@ impl Setup {
         self
     }
 
-    // The coefficients come into force and are the trial ones, calibrated at the clock; no next calibration is set.
-    pub fn calibrate(mut self, c: Coefficients, clock: u32) -> Self
-        ensures { λ r. ⌜ r ≡ calibratedAt self c clock ⌝ }
+    // Other trial coefficients.
+    pub fn with_trial(mut self, c: Coefficients) -> Self
+        ensures { λ r. ⌜ r ≡ withTrial self c ⌝ }
     {
         let mut procedure = self.procedure;
         procedure.trial = c;
         self.procedure = procedure;
+        self
+    }
+
+    // The coefficients come into force and are the trial ones, calibrated at the clock; no next calibration is set.
+    pub fn calibrate(self, c: Coefficients, clock: u32) -> Self
+        ensures { λ r. ⌜ r ≡ calibratedAt self c clock ⌝ }
+    {
+        let mut s = self.with_trial(c);
         let calibration = c.calibration(clock);
-        let mut active = self.active;
+        let mut active = s.active;
         active.calibration = calibration;
         active.next = 0;
-        self.active = active;
-        self
+        s.active = active;
+        s
     }
 }
 

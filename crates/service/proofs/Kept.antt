@@ -1,11 +1,12 @@
--- What a call leaves alone. Demand 1: "A number changes nothing; a code changes only the message counters and writes its exception reply";
--- document 01: "Reply bytes past the reply's length stay", and "the free words past the entries in use keep what they held". Assumes nothing.
+-- What a call leaves alone. Demand 1: "A number changes nothing; a code changes only the message counters and writes its exception reply", with
+-- the exception of document 02, wish 2, which `refusedLeaves` has; document 01: "Reply bytes past the reply's length stay", and "the free words past
+-- the entries in use keep what they held". Assumes nothing.
 use mathlib.Core.Path.{_≡_, refl, ap}
-use mathlib.Core.Bool.{Bool, true}
+use mathlib.Core.Bool.{Bool, true, false, _&&_, cond}
 use mathlib.Core.List.{List}
 use Prim.Native.Nat.{ℕ, _-_}
 use native.Mathlib.Omega.{arith}
-use lib.Dec.{ltb}
+use lib.Dec.{eqb, ltb}
 use lib.Ieee.{Float}
 use lib.ListN.{length, getD, drop}
 use lib.Seq.{drop-append-seam, set-getD}
@@ -15,7 +16,9 @@ use Rattle.words.specs.Overlay.{overlay}
 use Rattle.framing.specs.Framing.{Carried, carriedIn, bodyOf, roomIn}
 use Rattle.modbus.specs.Request.{headerOf}
 use Rattle.modbus.specs.declared.Header.{Header}
+use Rattle.modbus.specs.declared.Value.{Value}
 use Rattle.entries.specs.declared.Entry.{Entry}
+use Rattle.fields.specs.declared.Field.{Field}
 use Rattle.journal.specs.Journal.{IsSensor}
 use Rattle.journal.specs.Layout.{place}
 use Rattle.journal.specs.Stores.{appendOf, appendsOf}
@@ -28,9 +31,10 @@ use Rattle.audit.specs.declared.Replayed.the-variants.{Invalid, Valid}
 use Rattle.sensors.specs.Changes.{sensorWithSetup}
 use Rattle.sensors.specs.declared.Setup.{Setup}
 use Rattle.sensors.specs.declared.Sensor.{Sensor}
-use Rattle.commands.specs.Commands.{codeOf}
-use Rattle.commands.specs.declared.Written.{Written}
-use Rattle.writes.proofs.Laws.{Journalled, nothing, entry, journalled, refused-keeps}
+use Rattle.registers.specs.Registers.{sensorRegister}
+use Rattle.commands.specs.Commands.{codeOf, refusedUpdate}
+use Rattle.writes.proofs.Laws.{Journalled, nothing, entry, journalled}
+use Rattle.writes.proofs.Updates.{refused-leaves, refused-journals}
 use Rattle.plans.specs.declared.Plan.{Plan}
 use Rattle.plans.specs.declared.Plan.the-variants.{Bad, Foreign, BroadcastRead, Refused, Reading, Writing}
 use Rattle.plans.proofs.Plans.{Facts}
@@ -40,7 +44,8 @@ use Rattle.state.specs.declared.Sonde.{Sonde}
 use Rattle.service.specs.Agrees.{openings, agrees}
 use Rattle.service.specs.Calls.{made, rejected, freshOf, Begun, begun, beginOf, poweredBy, powerUpOf, rawsFinite, measureOf, auditOf}
 use Rattle.replies.specs.Reply.{replyOf}
-use Rattle.service.specs.Frame.{answer, refusalBody, writeBody, contextOf, writtenBy, writeAt, carriedOut, planned, codeBy, planFor, answerOf, answerTo, Outcome, outcome, refusedBy, left, frameOf}
+use Rattle.service.specs.Frame.{firstWord, secondWord, answer, refusalBody, writeBody, contextOf, writtenBy, writeAt, isUpdate, carriedOut, planned, codeBy, planFor, answerOf, answerTo, Outcome, outcome, refusedBy, left, frameOf}
+use Rattle.service.specs.Refusals.{refusedLeaves}
 use Rattle.service.specs.declared.Arrival.{Arrival}
 use Rattle.service.specs.declared.SondeMade.{SondeMade}
 use Rattle.service.specs.declared.SondeAudit.{SondeAudit}
@@ -210,17 +215,32 @@ pub with-setup-same : (d : Sonde) (s : ℕ) → withSetup d s (setupAt d s) ≡ 
 unfolding withSetup withSensor setupAt sensorAt sensorWithSetup
 with-setup-same d s = ap (λ (l : List Sensor). sonde (d .address) l (d .counters)) (set-getD (d .sensors) (s - 1) noSensor)
 
-carried-refused : (d : Sonde) (h : Header) (body w : List ℕ) (s : ℕ) (x : Written) → (codeOf x ≡ 0 → ⊥)
-    → carriedOut d h body w s x ≡ answer Exception (refusalBody h (codeOf x)) d w
-unfolding carriedOut writeBody
-carried-refused d h body w s x n = let k = refused-keeps (setupAt d s) x n in rw (ne-eqb (codeOf x) 0 n, k .0, k .1, with-setup-same d s)
+-- the write of a field that is refused
+write-refused : (d : Sonde) (h : Header) (body w : List ℕ) (a : Arrival) (s : ℕ) (f : Field) (v : Value) → (codeOf (writeAt d w a s f v) ≡ 0 → ⊥)
+    → carriedOut d h body w s (writeAt d w a s f v) ≡ answer Exception (refusalBody h (codeOf (writeAt d w a s f v))) (refusedLeaves d (Writing s f v)) w
+unfolding carriedOut writeBody writtenBy isUpdate setupAt
+write-refused d h body w a s f v n =
+    let x = sensorAt d s in
+    let high = firstWord (sensorRegister s x (f .offset)) v in
+    rw (
+      ne-eqb (codeOf (writeAt d w a s f v)) 0 n,
+      refused-journals (writeAt d w a s f v) n,
+      refused-leaves s (x .setup) f high (secondWord v) (contextOf w a) n,
+    )
+    (go (eqb (f .offset) 5 && eqb high 0xE001))
+  where
+    go : (u : Bool) → answer Exception (refusalBody h (codeOf (writeAt d w a s f v))) (withSetup d s (cond u (refusedUpdate s (setupAt d s)) (setupAt d s))) w
+        ≡ answer Exception (refusalBody h (codeOf (writeAt d w a s f v))) (cond u (withSetup d s (refusedUpdate s (setupAt d s))) d) w
+    go true = refl
+    go false = rw (with-setup-same d s)
 
--- what is refused by a code has the refusal's answer, and sonde and volume stay
+-- what is refused by a code has the refusal's answer, the volume stays, and so does the sonde, but for the trial coefficients of a sensor whose
+-- update is refused for its limits alone
 pub code-keeps : (d : Sonde) (h : Header) (body w : List ℕ) (a : Arrival) (p : Plan) → (codeBy d w a p ≡ 0 → ⊥)
-    → planned d h body w a p ≡ answer Exception (refusalBody h (codeBy d w a p)) d w
+    → planned d h body w a p ≡ answer Exception (refusalBody h (codeBy d w a p)) (refusedLeaves d p) w
 code-keeps d h body w a Bad n = absurd (n refl)
 code-keeps d h body w a Foreign n = absurd (n refl)
 code-keeps d h body w a BroadcastRead n = absurd (n refl)
 code-keeps d h body w a (Refused code) n = refl
 code-keeps d h body w a (Reading start count) n = absurd (n refl)
-code-keeps d h body w a (Writing s f v) n = carried-refused d h body w s (writeAt d w a s f v) n
+code-keeps d h body w a (Writing s f v) n = write-refused d h body w a s f v n

@@ -3,3 +3,4 @@ pub mod Framings
 pub mod Kept
 pub mod Parts
 pub mod Registers
+pub mod Refusals

@@ -1,7 +1,7 @@
 -- What a frame does: number, sonde, reply and volume as one function of what goes in. Document 01, "Frames", in its order: numbers 3 and 4;
 -- bad; another's; a read at address 0; codes 1, 3, 2, 0x80 and 0xC2, which the plan has; then the field's write. Document 02, wish 1: a frame has
 -- one of two framings, and what it carries is all that is judged. Assumes nothing.
-use mathlib.Core.Bool.{Bool, cond}
+use mathlib.Core.Bool.{Bool, _&&_, cond}
 use mathlib.Core.List.{List, []}
 use Prim.Native.Nat.{ℕ}
 use lib.Dec.{eqb, ltb}
@@ -91,7 +91,11 @@ writtenBy s x f v c = writeOf s (x .setup) f (firstWord (sensorRegister s x (f .
 abbrev pub writeAt : Sonde → List ℕ → Arrival → ℕ → Field → Value → Written
 writeAt d w a s f v = writtenBy s (sensorAt d s) f v (contextOf w a)
 
--- demand 1: "a code changes only the message counters"; what is stored is the sensor's; an update also appends its entry
+-- "writes 0xE001 to a command register" ("5 command"), by functions 6 and 16 or by a mask
+unfoldable pub isUpdate : ℕ → Sensor → Field → Value → Bool
+isUpdate s x f v = eqb (f .offset) 5 && eqb (firstWord (sensorRegister s x (f .offset)) v) 0xE001
+
+-- what is stored is the sensor's, what a refusal leaves of it too (`setupAfter`); an update also appends its entry
 unfoldable pub carriedOut : Sonde → Header → List ℕ → List ℕ → ℕ → Written → Answer
 carriedOut d h body w s x =
     answer (eventOf (codeOf x)) (writeBody h body (codeOf x)) (withSetup d s (setupAfter (setupAt d s) x)) (appendsOf w (entriesOf x))

@@ -3,3 +3,4 @@ pub mod Calls
 pub mod Reads
 pub mod Frame
 pub mod Framings
+pub mod Refusals

@@ -14,7 +14,7 @@ use Rattle.coefficients.specs.Coefficients.{allFinite}
 use Rattle.coefficients.specs.declared.Coefficients.{Coefficients}
 use Rattle.methods.specs.declared.Points.{Points}
 use Rattle.coefficients.proofs.Bits.{CoefficientsFit}
-use Rattle.methods.proofs.Candidates.{PointsFit, accepted, accepted-fits, method-fits}
+use Rattle.methods.proofs.Candidates.{PointsFit, MethodFits, accepted, outside-limits, made-fits, method-fits}
 use Rattle.entries.specs.Entries.{pointsFinite, validEntry, replacedBy}
 use Rattle.entries.specs.declared.Entry.{Entry}
 use Rattle.entries.proofs.Entries.{entryFits, accepted-valid, accepted-entry-fits}
@@ -26,13 +26,12 @@ use Rattle.sensors.specs.declared.Parameters.{Parameters}
 use Rattle.sensors.specs.declared.Active.{Active}
 use Rattle.sensors.specs.declared.Setup.{Setup}
 use Rattle.sensors.proofs.Setups.{ValidProcedure, ParametersFit, SetupFits, valid-procedure-parts, valid-procedure, valid-parameter-parts, valid-parameter, parameter-valid, valid-setup-parts, parameter-fits}
-use Rattle.sensors.proofs.Changed.{with-procedure-valid, with-parameters-valid, with-next-valid, restarted-valid, with-level-valid, with-parameter-valid, units-listed, calibrated-valid, with-procedure-fits, with-parameters-fits, with-next-fits, restarted-fits, with-parameter-fits, calibrated-fits}
+use Rattle.sensors.proofs.Changed.{with-procedure-valid, with-parameters-valid, with-next-valid, restarted-valid, with-level-valid, with-parameter-valid, units-listed, with-trial-valid, calibrated-valid, with-procedure-fits, with-parameters-fits, with-next-fits, restarted-fits, with-trial-fits, with-parameter-fits, calibrated-fits}
 use Rattle.writes.specs.Writes.{trialAt, pointAt, withSentinel, withFloat, writeOf}
 use Rattle.commands.specs.Commands.{codeOf, setupAfter, entriesOf, methodSet}
 use Rattle.commands.specs.declared.Context.{Context}
 use Rattle.commands.specs.declared.Written.{Written}
-use Rattle.commands.specs.declared.Written.the-variants.{Refused, Stored, Updated}
-use Rattle.writes.proofs.Outcomes.{Code, float-below, Change, same, restart, next, method, float, level, units, Outcome, refused, stored, update, write-outcome}
+use Rattle.writes.proofs.Outcomes.{Code, not-accepted, float-below, Change, same, restart, next, method, float, level, units, Outcome, refused, failed, stored, update, write-outcome}
 
 -- ---- coefficients and points with one value replaced
 
@@ -90,8 +89,7 @@ float-valid : (n : ℕ) (s : Setup) (o : ℕ) (x : Float) → o ≤ 53 → valid
 unfolding withFloat
 float-valid n s o x l h f =
     choose (λ t. validSetup n t ≡ true) (ltb o 16) _ _
-    (λ e. with-procedure-valid n s h _
-    (valid-procedure n _ (record { trial-finite = trial-finite _ o x (p .trial-finite) f; points-finite = p .points-finite; method-allowed = p .method-allowed })))
+    (λ e. with-trial-valid n s h _ (trial-finite _ o x (p .trial-finite) f))
     (λ e. choose (λ t. validSetup n t ≡ true) (ltb o 30) _ _
     (λ e. with-procedure-valid n s h _
     (valid-procedure n _ (record { trial-finite = p .trial-finite; points-finite = point-finite _ o x (p .points-finite) f; method-allowed = p .method-allowed })))
@@ -104,7 +102,7 @@ float-fits : (s : Setup) (o : ℕ) (x : Float) → SetupFits s → T (fits binar
 unfolding withFloat
 float-fits s o x v f =
     let p = v .fits-procedure in
-    choose SetupFits (ltb o 16) _ _ (λ e. with-procedure-fits s v _ (record { fits-trial = trial-fits _ o x (p .fits-trial) f; fits-points = p .fits-points }))
+    choose SetupFits (ltb o 16) _ _ (λ e. with-trial-fits s v _ (trial-fits _ o x (p .fits-trial) f))
     (λ e. choose SetupFits (ltb o 30) _ _ (λ e. with-procedure-fits s v _ (record { fits-trial = p .fits-trial; fits-points = point-fits _ o x (p .fits-points) f }))
     (λ e. with-parameters-fits s v _ (sentinel-fits (s .parameters) (parameterNumber o) x (v .fits-parameters) f)))
 
@@ -177,20 +175,22 @@ module _ (sensor : ℕ) (s : Setup) (f : Field) (high low : ℕ) (context : Cont
     where
       of : {w : Written} → Comes w → validSetup sensor (setupAfter s w) ≡ true
       of (refused c) = h
+      of (failed c i u m j) = with-trial-valid sensor s h c (outside-limits sensor (methodSet s) c j .all-finite)
       of (stored c) = change-valid sensor s (f .offset) high low c h
-      of (update c i u m r j) = let a = accepted sensor (methodSet s) c j in calibrated-valid sensor s h c (context .clock) (a .all-finite) (a .in-limits)
+      of (update c i u m r j) = let a = accepted sensor (methodSet s) c j in calibrated-valid sensor s h c (context .clock) (a .all-finite) (a .limits)
 
   -- and one of the format of the format
   pub after-fits : SetupFits s → SetupFits (setupAfter s x)
   after-fits v = of came
     where
+      m : MethodFits (methodSet s)
+      m = method-fits (s .procedure .method) (s .procedure .trial) (s .procedure .points) (v .fits-procedure .fits-trial) (v .fits-procedure .fits-points)
+
       of : {w : Written} → Comes w → SetupFits (setupAfter s w)
       of (refused c) = v
+      of (failed c i u k j) = with-trial-fits s v c (made-fits (methodSet s) c m (outside-limits sensor (methodSet s) c j .made))
       of (stored c) = change-fits sensor s (f .offset) high low c v
-      of (update c i u m r j) =
-          let p = v .fits-procedure in
-          let m = method-fits (s .procedure .method) (s .procedure .trial) (s .procedure .points) (p .fits-trial) (p .fits-points) in
-          calibrated-fits s v c (context .clock) (accepted-fits sensor (methodSet s) c m j)
+      of (update c i u k r j) = calibrated-fits s v c (context .clock) (made-fits (methodSet s) c m (accepted sensor (methodSet s) c j .made))
 
   pub journalled : Journalled sensor s (setupAfter s x) context (codeOf x) (entriesOf x)
   unfolding calibratedAt replacedBy
@@ -198,6 +198,7 @@ module _ (sensor : ℕ) (s : Setup) (f : Field) (high low : ℕ) (context : Cont
     where
       of : {w : Written} → Comes w → Journalled sensor s (setupAfter s w) context (codeOf w) (entriesOf w)
       of (refused c) = nothing refl
+      of (failed c i u m j) = nothing refl
       of (stored c) = nothing (change-active sensor s (f .offset) high low c)
       of (update c i u m r j) =
           let n = s .procedure .method in
@@ -209,16 +210,11 @@ module _ (sensor : ℕ) (s : Setup) (f : Field) (high low : ℕ) (context : Cont
           (λ v. accepted-entry-fits sensor n trial points c (context .clock) (v .fits-procedure .fits-trial) (v .fits-procedure .fits-points) j)
 
   -- a refusal's code is 0x92, 0x84, 0x97 or 0xC0
-  pub codes : (code : ℕ) → x ≡ Refused code → Code code
-  codes code e = of came e
+  pub codes : (codeOf x ≡ 0 → ⊥) → Code (codeOf x)
+  codes = of came
     where
-      of : {w : Written} → Comes w → w ≡ Refused code → Code code
-      of (refused {code = c} h) e = let q : c ≡ code = cc in rw q at h
-      of (stored h) e = let z : _≡_ {A = ℕ} 0 1 = cc in absurd (omega arith)
-      of (update c i u m r j) e = let z : _≡_ {A = ℕ} 0 1 = cc in absurd (omega arith)
-
--- an answer with a code other than 0 changes nothing
-pub refused-keeps : (s : Setup) (w : Written) → (codeOf w ≡ 0 → ⊥) → (setupAfter s w ≡ s) × (entriesOf w ≡ [])
-refused-keeps s (Refused code) h = (refl, refl)
-refused-keeps s (Stored t) h = absurd (h refl)
-refused-keeps s (Updated t e) h = absurd (h refl)
+      of : {w : Written} → Comes w → (codeOf w ≡ 0 → ⊥) → Code (codeOf w)
+      of (refused h) n = h
+      of (failed c i u m j) n = not-accepted
+      of (stored h) n = absurd (n refl)
+      of (update c i u m r j) n = absurd (n refl)

@@ -1,4 +1,5 @@
--- What a write can come to, by cases: refused by one of four codes, one value stored, or an update. Assumes nothing.
+-- What a write can come to, by cases: refused by one of four codes, an update that failed for its limits alone, one value stored, or an update.
+-- Assumes nothing.
 use mathlib.Core.Path.{_≡_, refl, subst}
 use mathlib.Core.Bool.{Bool, true, false, _&&_, not}
 use Prim.Native.Nat.{ℕ, _≤_}
@@ -18,13 +19,13 @@ use Rattle.entries.specs.Entries.{methodAllowed, entryOf}
 use Rattle.parameters.specs.Parameters.{parameterNumber, parameterPart, idOf, unitsAllowed, levelAllowed}
 use Rattle.fields.specs.declared.Field.{Field}
 use Rattle.sensors.specs.Sensors.{parameterOf}
-use Rattle.sensors.specs.Changes.{procedure, active, withProcedure, withActive, withParameters, withLevel, restarted, calibratedAt, withParameter}
+use Rattle.sensors.specs.Changes.{procedure, active, withProcedure, withActive, withParameters, withTrial, withLevel, restarted, calibratedAt, withParameter}
 use Rattle.sensors.specs.declared.Setup.{Setup}
 use Rattle.commands.specs.Commands.{methodSet, judgedUpdate, updated, commanded}
 use Rattle.writes.specs.Writes.{nextWritten, methodWritten, withFloat, floatStored, floatWritten, levelWritten, unitsWritten, parameterWritten, fieldWritten, writeOf}
 use Rattle.commands.specs.declared.Context.{Context}
 use Rattle.commands.specs.declared.Written.{Written}
-use Rattle.commands.specs.declared.Written.the-variants.{Refused, Stored, Updated}
+use Rattle.commands.specs.declared.Written.the-variants.{Refused, Failed, Stored, Updated}
 
 -- the codes that refuse a write of a whole field
 pub data Code : ℕ → Type 0 where
@@ -58,6 +59,8 @@ pub data Change (sensor : ℕ) (s : Setup) (o high low : ℕ) : Setup → Type 0
 -- what a write comes to
 pub data Outcome (sensor : ℕ) (s : Setup) (o high low : ℕ) (context : Context) : Written → Type 0 where
   refused : {code : ℕ} → Code code → Outcome sensor s o high low context (Refused code)
+  failed : (c : Coefficients) → o ≡ 5 → high ≡ 0xE001 → s .procedure .calibrating ≡ true → judgedOf sensor (methodSet s) ≡ OutsideLimits c
+      → Outcome sensor s o high low context (Failed (withTrial s c))
   stored : {t : Setup} → Change sensor s o high low t → Outcome sensor s o high low context (Stored t)
   update : (c : Coefficients) → o ≡ 5 → high ≡ 0xE001 → s .procedure .calibrating ≡ true → context .spare ≡ true → judgedOf sensor (methodSet s) ≡ Accepted c
       → Outcome sensor s o high low context (Updated (calibratedAt s c (context .clock)) (entryOf sensor (methodSet s) c (context .clock)))
@@ -68,7 +71,7 @@ module _ (sensor : ℕ) (s : Setup) (o high low : ℕ) (context : Context) where
 
   judged-outcome : o ≡ 5 → high ≡ 0xE001 → s .procedure .calibrating ≡ true → (v : Verdict) → judgedOf sensor (methodSet s) ≡ v → P (judgedUpdate sensor s context v)
   judged-outcome i u m (Accepted c) e = choose P (context .spare) _ _ (λ r. update c i u m r e) (λ r. refused journal-full)
-  judged-outcome i u m (OutsideLimits c) e = refused not-accepted
+  judged-outcome i u m (OutsideLimits c) e = failed c i u m e
   judged-outcome i u m CandidateNotFinite e = refused not-accepted
   judged-outcome i u m Undefined e = refused not-accepted
 
@@ -127,6 +130,7 @@ write-outcome sensor s f high low context =
 pub stored-change : {sensor : ℕ} {s : Setup} {o high low : ℕ} {context : Context} {w : Written} → Outcome sensor s o high low context w → (t : Setup) → w ≡ Stored t
     → Change sensor s o high low t
 stored-change (refused h) t e = let z : _≡_ {A = ℕ} 0 1 = cc in absurd (omega arith)
+stored-change (failed c i u m j) t e = let z : _≡_ {A = ℕ} 0 1 = cc in absurd (omega arith)
 stored-change {sensor} {s} {o} {high} {low} (stored {t = u} h) t e = subst (Change sensor s o high low) (same-setup u t e) h
   where
     same-setup : (u t : Setup) → Stored u ≡ Stored t → u ≡ t

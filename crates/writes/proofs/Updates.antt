@@ -1,5 +1,5 @@
--- Updates: what an accepted one says, that none is refused without a reason, that no other write journals, and that the journal's room
--- matters to an update alone. Assumes nothing.
+-- Updates: what an accepted one says, that none is refused without a reason, that no other write journals, what a refused write leaves, and that
+-- the journal's room matters to an update alone. Assumes nothing.
 use mathlib.Core.Path.{_≡_, refl, sym, ap, subst, _∙_}
 use mathlib.Core.Bool.{Bool, true, false, _&&_, not, cond}
 use mathlib.Core.List.{List, []}
@@ -17,14 +17,14 @@ use Rattle.methods.proofs.Candidates.{accepted}
 use Rattle.entries.specs.Entries.{entryOf, replacedBy}
 use Rattle.entries.specs.declared.Entry.{Entry}
 use Rattle.fields.specs.declared.Field.{Field}
-use Rattle.sensors.specs.Changes.{calibratedAt}
+use Rattle.sensors.specs.Changes.{withTrial, calibratedAt}
 use Rattle.sensors.specs.declared.Setup.{Setup}
-use Rattle.commands.specs.Commands.{context, entriesOf, methodSet, judgedUpdate, updated, commanded, acceptedBy, acceptedUpdate}
+use Rattle.commands.specs.Commands.{context, codeOf, setupAfter, entriesOf, methodSet, judgedUpdate, updated, commanded, triedBy, refusedUpdate, acceptedBy, acceptedUpdate}
 use Rattle.writes.specs.Writes.{fieldWritten, writeOf}
 use Rattle.commands.specs.declared.Context.{Context}
 use Rattle.commands.specs.declared.Written.{Written}
-use Rattle.commands.specs.declared.Written.the-variants.{Refused, Updated}
-use Rattle.writes.proofs.Outcomes.{Outcome, refused, stored, update, write-outcome}
+use Rattle.commands.specs.declared.Written.the-variants.{Refused, Failed, Stored, Updated}
+use Rattle.writes.proofs.Outcomes.{Outcome, refused, failed, stored, update, write-outcome}
 
 -- ---- what an update says
 
@@ -61,7 +61,7 @@ module _ (sensor : ℕ) (s : Setup) (f : Field) (high low : ℕ) (context : Cont
             has-room = r;
             verdict-is = j;
             all-finite = accepted sensor (methodSet s) c j .all-finite;
-            in-limits = accepted sensor (methodSet s) c j .in-limits;
+            in-limits = accepted sensor (methodSet s) c j .limits;
             time-is = refl;
             setup-is = refl;
             journalled = refl;
@@ -79,6 +79,7 @@ module _ (sensor : ℕ) (s : Setup) (f : Field) (high low : ℕ) (context : Cont
 
       of : {w : Written} → Outcome sensor s (f .offset) high low context w → w ≡ Updated t e → Update sensor s f high context t e
       of (refused h) w = let z : _≡_ {A = ℕ} 0 1 = cc in absurd (omega arith)
+      of (failed c i u m j) w = let z : _≡_ {A = ℕ} 0 1 = cc in absurd (omega arith)
       of (stored h) w = let z : _≡_ {A = ℕ} 0 1 = cc in absurd (omega arith)
       of (update c i u m r j) w = at _ _ w (made c i u m r j)
 
@@ -90,6 +91,17 @@ pub update-accepted : (sensor : ℕ) (s : Setup) (f : Field) (low : ℕ) (contex
     → writeOf sensor s f 0xE001 low context ≡ Updated (calibratedAt s c (context .clock)) (entryOf sensor (methodSet s) c (context .clock))
 unfolding writeOf fieldWritten commanded updated
 update-accepted sensor s f low context c o a m j r = rw (a, o, m, j, r)
+
+-- one of a candidate that is refused for its limits alone fails with it, with room in the journal or without
+pub update-fails : (sensor : ℕ) (s : Setup) (f : Field) (low : ℕ) (context : Context) (c : Coefficients) → f .offset ≡ 5
+    → s .procedure .calibrating ≡ true → judgedOf sensor (methodSet s) ≡ OutsideLimits c
+    → writeOf sensor s f 0xE001 low context ≡ Failed (withTrial s c)
+unfolding writeOf fieldWritten commanded updated
+update-fails sensor s f low context c o m j = rw (o, m, j) (go (eqb (f .access) 2) _)
+  where
+    go : (modal : Bool) (w : Written) → cond (modal && false) (Refused 0x92) w ≡ w
+    go true w = refl
+    go false w = refl
 
 -- ---- which writes journal what
 
@@ -126,6 +138,7 @@ module _ (sensor : ℕ) (s : Setup) (f : Field) (high low : ℕ) (context : Cont
     where
       of : {w : Written} → Outcome sensor s (f .offset) high low context w → entriesOf w ≡ []
       of (refused h) = refl
+      of (failed c i u m j) = refl
       of (stored h) = refl
       of (update c i u m r j) = absurd (no (sym n ∙ rw (i, u)))
 
@@ -134,6 +147,57 @@ module _ (sensor : ℕ) (s : Setup) (f : Field) (high low : ℕ) (context : Cont
   entries-told =
       choose (λ (l : List Entry). entriesOf x ≡ l) (eqb (f .offset) 5 && eqb high 0xE001) _ _
       (λ e. let t = both (eqb (f .offset) 5) (eqb high 0xE001) e in update-told (eqb-true (f .offset) 5 (t .0)) (eqb-true high 0xE001 (t .1))) none-told
+
+-- ---- what a refused write leaves
+
+module _ (sensor : ℕ) (s : Setup) (f : Field) (high low : ℕ) (context : Context) where
+  abbrev y : Written
+  y = writeOf sensor s f high low context
+
+  -- an answer that is refused leaves the setup t
+  abbrev Leaves : Setup → Written → Type 0
+  Leaves t w = (codeOf w ≡ 0 → ⊥) → setupAfter s w ≡ t
+
+  -- the command 0xE001
+  update-leaves : f .offset ≡ 5 → high ≡ 0xE001 → Leaves (refusedUpdate sensor s) y
+  unfolding writeOf fieldWritten commanded updated refusedUpdate
+  update-leaves o u = rw (o, u) (in-mode (eqb (f .access) 2) (s .procedure .calibrating) _ (judged (judgedOf sensor (methodSet s))))
+    where
+      in-mode : (modal mode : Bool) (w : Written) {t : Setup} → Leaves t w
+          → Leaves (cond mode t s) (cond (modal && not mode) (Refused 0x92) (cond mode w (Refused 0x92)))
+      in-mode true true w h = h
+      in-mode true false w h = λ n. refl
+      in-mode false true w h = h
+      in-mode false false w h = λ n. refl
+
+      judged : (v : Verdict) → Leaves (triedBy s v) (judgedUpdate sensor s context v)
+      judged (Accepted c) = choose (Leaves s) (context .spare) _ _ (λ r n. absurd (n refl)) (λ r n. refl)
+      judged (OutsideLimits c) = λ n. refl
+      judged NotFinite = λ n. refl
+      judged Undefined = λ n. refl
+
+  -- any other write
+  other-leaves : (eqb (f .offset) 5 && eqb high 0xE001) ≡ false → Leaves s y
+  other-leaves n = of (write-outcome sensor s f high low context)
+    where
+      of : {w : Written} → Outcome sensor s (f .offset) high low context w → Leaves s w
+      of (refused h) k = refl
+      of (failed c i u m j) k = absurd (no (sym n ∙ rw (i, u)))
+      of (stored h) k = absurd (k refl)
+      of (update c i u m r j) k = absurd (k refl)
+
+  -- a write that is refused leaves the setup, but for the trial coefficients of an update that is refused for its limits alone
+  pub refused-leaves : Leaves (cond (eqb (f .offset) 5 && eqb high 0xE001) (refusedUpdate sensor s) s) y
+  refused-leaves =
+      choose (λ (t : Setup). Leaves t y) (eqb (f .offset) 5 && eqb high 0xE001) _ _
+      (λ e. let t = both (eqb (f .offset) 5) (eqb high 0xE001) e in update-leaves (eqb-true (f .offset) 5 (t .0)) (eqb-true high 0xE001 (t .1))) other-leaves
+
+-- and journals nothing
+pub refused-journals : (w : Written) → (codeOf w ≡ 0 → ⊥) → entriesOf w ≡ []
+refused-journals (Refused code) n = refl
+refused-journals (Failed t) n = refl
+refused-journals (Stored t) n = absurd (n refl)
+refused-journals (Updated t e) n = absurd (n refl)
 
 -- ---- the journal's room
 

@@ -18,7 +18,7 @@ use Rattle.sensors.specs.declared.Setup.{Setup}
 use Rattle.commands.specs.Commands.{context, setupAfter, updated, commanded}
 use Rattle.writes.specs.Writes.{methodWritten, trialAt, pointAt, withFloat, floatWritten, fieldWritten, writeOf}
 use Rattle.commands.specs.declared.Written.{Written}
-use Rattle.commands.specs.declared.Written.the-variants.{Refused, Stored, Updated}
+use Rattle.commands.specs.declared.Written.the-variants.{Refused, Failed, Stored, Updated}
 
 abbrev writeRow : Found → ℕ → Setup → ℕ → ℕ → Bool → Written
 writeRow (Row f) sensor s high low spare = writeOf sensor s f high low (context 70000 spare)
@@ -32,9 +32,11 @@ write s register high low spare = writeRow (fieldAt register) (register / 100) s
 abbrev next : Setup → ℕ → ℕ → Setup
 next s register high = setupAfter s (write s register high 0 true)
 
--- what an update gives: its code, and of the entry sensor, method, time, coefficients and points
+-- what an update gives: its code; of one that failed the candidate, and of the entry sensor, method, time, coefficients and points
 abbrev told : Written → List ℕ
 told (Refused code) = code ∷ []
+told (Failed t) =
+    0x97 ∷ toBits binary32 (t .procedure .trial .coefficient1) ∷ toBits binary32 (t .procedure .trial .coefficient2) ∷ toBits binary32 (t .procedure .trial .coefficient3) ∷ []
 told (Stored t) = 0 ∷ []
 told (Updated t e) =
     0 ∷ e .sensor ∷ e .method ∷ e .calibration .time
@@ -52,8 +54,8 @@ onePoint = next (next (next (next (next (freshSetup 1) 105 0xE000) 106 1) 120 0x
 pub record Worked : Type 0 where
   -- points that the method doesn't use are +0.0 in the entry
   pub one-point : told (write onePoint 105 0xE001 0 true) ≡ 0 ∷ 1 ∷ 1 ∷ 70000 ∷ 0 ∷ 0x3FA00000 ∷ 0 ∷ 0x41000000 ∷ 0x41200000 ∷ 0 ∷ 0 ∷ []
-  -- a bad candidate goes before a full journal: y1 10 gives 1.25, 0x97
-  pub full-and-bad : told (write (next twoPoints 218 0x4120) 205 0xE001 0 false) ≡ 0x97 ∷ []
+  -- a bad candidate goes before a full journal: y1 10 gives 1.25, 0x97, and is kept
+  pub full-and-bad : told (write (next twoPoints 218 0x4120) 205 0xE001 0 false) ≡ 0x97 ∷ 0 ∷ 0x3FA00000 ∷ 0 ∷ []
   -- mode off goes before a value that isn't listed
   pub method-mode-off : told (write (freshSetup 2) 206 9 0 true) ≡ 0x92 ∷ []
 

@@ -59,7 +59,7 @@ withSentinel q k x = withParameter q k (record { units = parameterOf q k .units;
 -- the setup with the float at an offset replaced: figures from 10 on, points from 16 on, and from 30 on the sentinels of the parameters
 unfoldable pub withFloat : Setup → ℕ → Float → Setup
 withFloat s offset x =
-    cond (ltb offset 16) (withProcedure s (withTrial (s .procedure) (trialAt (s .procedure .trial) offset x)))
+    cond (ltb offset 16) (withTrial s (trialAt (s .procedure .trial) offset x))
     (cond (ltb offset 30) (withProcedure s (withPoints (s .procedure) (pointAt (s .procedure .points) offset x)))
     (withParameters s (withSentinel (s .parameters) (parameterNumber offset) x)))
 

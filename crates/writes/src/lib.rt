@@ -74,10 +74,7 @@ fn with_float(mut s: Setup, offset: u16, x: f32) -> Setup
 {
     let mut p = s.procedure;
     if offset < 16 {
-        let trial = trial_at(p.trial, offset, x);
-        p.trial = trial;
-        s.procedure = p;
-        return s;
+        return s.with_trial(trial_at(p.trial, offset, x));
     }
     if offset < 30 {
         let points = point_at(p.points, offset, x);

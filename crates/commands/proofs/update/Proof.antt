@@ -1,4 +1,4 @@
--- The tests stand in the order of the definition; a verdict that is not accepted is refused by its code. Assumes nothing.
+-- The tests stand in the order of the definition. Assumes nothing.
 use mathlib.Core.Path.{_≡_, refl}
 use mathlib.Core.Bool.{Bool, true, false, not, cond}
 use mathlib.Core.List.{[], _∷_}
@@ -23,10 +23,10 @@ turned : (b : Bool) (x y : Written) → cond b x y ≡ cond (not b) y x
 turned true x y = refl
 turned false x y = refl
 
--- a verdict other than the first is refused by its code
-refused : (sensor : ℕ) (s : Setup) (context : Context) (v : Verdict) → OneOf (1 ∷ 2 ∷ 3 ∷ []) (tagOf the-type v) → judgedUpdate sensor s context v ≡ Refused (codeOf v)
-refused sensor s context (Accepted c) h = absurd (miss (1 ∷ 2 ∷ 3 ∷ []) 0 tt h)
-refused sensor s context (OutsideLimits c) h = refl
+-- a candidate that isn't finite, and points that give none, are refused by the verdict's code
+refused : (sensor : ℕ) (s : Setup) (context : Context) (v : Verdict) → OneOf (2 ∷ 3 ∷ []) (tagOf the-type v) → judgedUpdate sensor s context v ≡ Refused (codeOf v)
+refused sensor s context (Accepted c) h = absurd (miss (2 ∷ 3 ∷ []) 0 tt h)
+refused sensor s context (OutsideLimits c) h = absurd (miss (2 ∷ 3 ∷ []) 1 tt h)
 refused sensor s context NotFinite h = refl
 refused sensor s context Undefined h = refl
 
@@ -59,12 +59,21 @@ returns-3 c =
 returns-4 : tie.Need-returns-4
 unfolding updated
 returns-4 c =
+    let a = c .before .before in
+    let b = a .before .before in
+    let d = b .before in
+    let e = d .before in
+    simp (turned (e .before .before .args .s .procedure .calibrating), e .if1 .left, ← d .method-of .ensures, ← b .judge .ensures, a .verdict2 .given .1, c .with-trial .ensures)
+
+returns-5 : tie.Need-returns-5
+unfolding updated
+returns-5 c =
     let a = c .before in
     let b = a .before in
     let d = b .before in
     let e = d .before in
     let x = e .before .before .args in
-    simp (turned (x .s .procedure .calibrating), e .if1 .left, ← d .method-of .ensures, ← b .judge .ensures, refused (x .sensor) (x .s) (x .context) (b .judge .result) (a .match .keys2), c .code-of .ensures)
+    simp (turned (x .s .procedure .calibrating), e .if1 .left, ← d .method-of .ensures, ← b .judge .ensures, refused (x .sensor) (x .s) (x .context) (b .judge .result) (a .match .keys3), c .code-of .ensures)
 
 pub update-spec : {M : Type 1} → statement M
 update-spec =
@@ -77,6 +86,9 @@ update-spec =
     returns-2
     (λ c κs. search needs)
     (λ c κs. search needs)
+    (λ c. search needs)
+    (λ c κs. search needs)
     (λ c κs. search needs)
     returns-3
-    returns-4)
+    returns-4
+    returns-5)

@@ -7,7 +7,7 @@ use Rattle.writes.proofs.with_float.Tie as tie
 
 returns : tie.Need-returns
 unfolding withFloat
-returns c = simp (lt-ltb _ _ (c .before .if1 .taken), ← c .trial-at .ensures)
+returns c = simp (lt-ltb _ _ (c .before .before .if1 .taken), c .with-trial .ensures, ← c .before .trial-at .ensures)
 
 returns-2 : tie.Need-returns-2
 unfolding withFloat
@@ -20,4 +20,4 @@ returns-3 c = simp (le-ltb _ _ (c .before .before .if1 .left), le-ltb _ _ (c .be
 pub with-float-spec : {M : Type 1} → statement M
 with-float-spec =
     tie.close
-    (tie.spec (λ c κs. search needs) returns (λ c κs. search needs) returns-2 (λ c. search needs) (λ c κs. search needs) returns-3)
+    (tie.spec (λ c κs. search needs) (λ c κs. search needs) returns (λ c κs. search needs) returns-2 (λ c. search needs) (λ c κs. search needs) returns-3)

@@ -6,7 +6,7 @@ use Rattle.sensors.proofs.Setup.calibrate.Tie as tie
 
 returns : tie.Need-returns
 unfolding calibratedAt
-returns c = simp (← c .before .calibration .ensures)
+returns c = simp (c .before .before .with-trial .ensures, ← c .before .calibration .ensures)
 
 pub calibrate-spec : {M : Type 1} → statement M
-calibrate-spec = tie.close (tie.spec (λ c κs. search needs) returns)
+calibrate-spec = tie.close (tie.spec (λ c κs. search needs) (λ c κs. search needs) returns)
