@@ -52,7 +52,7 @@ pub fn listed_method(sensor: usize, method: u16) -> bool {
 }
 
 /// What an update puts in force if it is within limits. One point with x1 = 0, or two with x1 = x2, divides by zero: the second coefficient
-/// is then infinite or NaN, so never within limits.
+/// is then infinite or NaN, so never finite and never within limits.
 pub fn candidate(method: u16, trial: &Coefficients, &[x1, y1, x2, y2]: &Points) -> Coefficients {
     match method {
         ONE_POINT => [0.0, y1 / x1, 0.0],
@@ -87,7 +87,11 @@ mod tests {
         assert!(within_limits(OXYGEN, &given([8.0, 9.0, 0.0, 0.0])));
         assert_eq!(given([8.0, 10.0, 0.0, 0.0])[1], 1.25);
         assert!(!within_limits(OXYGEN, &given([8.0, 10.0, 0.0, 0.0])));
-        assert!(!within_limits(0, &given([3.0, 4.0, 3.0, 4.0])));
+        for y2 in [4.0, 5.0, f32::MAX] {
+            assert!(!within_limits(0, &given([3.0, 4.0, 3.0, y2])));
+            assert!(!given([3.0, 4.0, 3.0, y2])[1].is_finite());
+        }
+        assert!(same(&given([f32::MAX, 2.0, -f32::MAX, 3.0]), &[2.0, -0.0, 0.0]));
     }
 
     #[test]
@@ -96,8 +100,10 @@ mod tests {
         assert_eq!(given(1000.0, 1250.0)[1].to_bits(), 0x3FA0_0000);
         assert!(same(&given(1000.0, 1250.0), &[0.0, 1.25, 0.0]));
         for x1 in [0.0, -0.0] {
-            assert!(!within_limits(0, &given(x1, 1.0)));
-            assert!(!within_limits(0, &given(x1, 0.0)));
+            for y1 in [1.0, 0.0] {
+                assert!(!within_limits(0, &given(x1, y1)));
+                assert!(!given(x1, y1)[1].is_finite());
+            }
         }
     }
 

@@ -2,7 +2,7 @@
 //! reply buffer, and its function gives the body's length.
 
 use crate::calibration::{candidate, listed_method, within_limits, Coefficients, DIRECT, SENSORS};
-use crate::floats::{join, split};
+use crate::floats::{all_finite, join, split};
 use crate::map::{locate, Access, Field, Place, ENTER, LEAVE, LEVEL_IDS, PARAMETERS, UPDATE};
 use crate::readings::reading;
 use crate::state::{Settings, Sonde};
@@ -33,6 +33,11 @@ pub enum Verdict {
     /// A read at address 0: counted, nothing else.
     Ignored,
     Refused(u8),
+    /// An update that is refused for its limits alone (wish 2): its candidate becomes the trial.
+    OutOfLimits {
+        sensor: usize,
+        candidate: Coefficients,
+    },
     Read {
         start: u16,
         count: u16,
@@ -41,6 +46,17 @@ pub enum Verdict {
         sensor: usize,
         change: Change,
     },
+}
+
+impl Verdict {
+    /// The code that refuses the request.
+    pub fn code(&self) -> Option<u8> {
+        match *self {
+            Verdict::Refused(code) => Some(code),
+            Verdict::OutOfLimits { .. } => Some(OUT_OF_LIMITS),
+            _ => None,
+        }
+    }
 }
 
 /// What an accepted write does to its sensor's settings.
@@ -96,8 +112,7 @@ fn judge_write(settings: &[Settings; SENSORS], full: bool, body: &[u8]) -> Resul
         _ if count == 1 => u32::from(word(body, 7)),
         _ => join(word(body, 7), word(body, 9)),
     };
-    let change = settings[sensor].admit(place, value, full)?;
-    Ok(Verdict::Write { sensor, change })
+    settings[sensor].admit(place, value, full)
 }
 
 /// How many registers a write names, if its shape is right.
@@ -159,44 +174,48 @@ impl Settings {
         }
     }
 
-    /// The change that a value written to a writable field makes, or the code that refuses it.
-    fn admit(&self, place: Place, value: u32, full: bool) -> Result<Change, u8> {
+    /// What becomes of a value written to a writable field.
+    fn admit(&self, place: Place, value: u32, full: bool) -> Result<Verdict, u8> {
+        let sensor = place.sensor;
         if place.field == Field::Command {
-            return self.admit_command(place.sensor, value as u16, full);
+            return self.admit_command(sensor, value as u16, full);
         }
-        if place.field.access(place.sensor) == Access::Calibrating && !self.calibrating {
+        if place.field.access(sensor) == Access::Calibrating && !self.calibrating {
             return Err(NOT_CALIBRATING);
         }
         let word = value as u16;
         let listed = match place.field {
             Field::Next => true,
-            Field::Method => listed_method(place.sensor, word),
-            Field::Units(i) => PARAMETERS[place.sensor][i].units.contains(&word),
+            Field::Method => listed_method(sensor, word),
+            Field::Units(i) => PARAMETERS[sensor][i].units.contains(&word),
             Field::Id(_) => LEVEL_IDS.contains(&word),
             _ => f32::from_bits(value).is_finite(),
         };
-        listed.then_some(Change::Set(place.field, value)).ok_or(UNLISTED)
+        let change = Change::Set(place.field, value);
+        listed.then_some(Verdict::Write { sensor, change }).ok_or(UNLISTED)
     }
 
-    fn admit_command(&self, sensor: usize, command: u16, full: bool) -> Result<Change, u8> {
-        match command {
-            ENTER => Ok(Change::Enter),
-            LEAVE => Ok(Change::Leave),
-            UPDATE if !self.calibrating => Err(NOT_CALIBRATING),
+    fn admit_command(&self, sensor: usize, command: u16, full: bool) -> Result<Verdict, u8> {
+        let change = match command {
+            ENTER => Change::Enter,
+            LEAVE => Change::Leave,
+            UPDATE if !self.calibrating => return Err(NOT_CALIBRATING),
             UPDATE => {
                 let candidate = candidate(self.method, &self.trial, &self.points);
                 match (within_limits(sensor, &candidate), full) {
-                    (false, _) => Err(OUT_OF_LIMITS),
-                    (true, true) => Err(JOURNAL_FULL),
-                    (true, false) => Ok(Change::Update(candidate)),
+                    (false, _) if all_finite(&candidate) => return Ok(Verdict::OutOfLimits { sensor, candidate }),
+                    (false, _) => return Err(OUT_OF_LIMITS),
+                    (true, true) => return Err(JOURNAL_FULL),
+                    (true, false) => Change::Update(candidate),
                 }
             }
-            _ => Err(UNLISTED),
-        }
+            _ => return Err(UNLISTED),
+        };
+        Ok(Verdict::Write { sensor, change })
     }
 
     /// Carries out an accepted write.
-    pub fn apply(&mut self, change: Change, clock: u32) {
+    fn apply(&mut self, change: Change, clock: u32) {
         match change {
             Change::Set(field, value) => self.set(field, value),
             Change::Enter if !self.calibrating => self.switch(true),
@@ -228,6 +247,21 @@ impl Settings {
             Field::Sentinel(i) => self.sentinels[i] = f32::from_bits(value),
             _ => self.level_id = value as u16,
         }
+    }
+}
+
+/// What a request leaves of the settings; gives the sensor of an accepted update.
+pub fn carry_out(verdict: &Verdict, settings: &mut [Settings; SENSORS], clock: u32) -> Option<usize> {
+    match *verdict {
+        Verdict::Write { sensor, change } => {
+            settings[sensor].apply(change, clock);
+            matches!(change, Change::Update(_)).then_some(sensor)
+        }
+        Verdict::OutOfLimits { sensor, candidate } => {
+            settings[sensor].trial = candidate;
+            None
+        }
+        Verdict::Foreign | Verdict::Ignored | Verdict::Refused(_) | Verdict::Read { .. } => None,
     }
 }
 

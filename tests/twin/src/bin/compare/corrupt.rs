@@ -3,7 +3,7 @@
 use crate::both::Both;
 use crate::random::Random;
 use crate::values;
-use twin::calibration::{DIRECT, LEVEL, LIMITS, ONE_POINT};
+use twin::calibration::{DIRECT, LEVEL, LIMITS, ONE_POINT, TWO_POINTS};
 use twin::map::PARAMETERS;
 use twin::state::Sonde;
 use twin::volume::{capacity, ENTRY_WORDS, HEADER_WORDS};
@@ -166,7 +166,13 @@ pub fn corrupt_sonde(sonde: &mut Sonde, corruption: Corruption, random: &mut Ran
         Mode => settings.calibrating = !settings.calibrating,
         TrialThird => {
             settings.calibrating = true;
-            settings.method = DIRECT;
+            // By one or two of these points a slope out of every sensor's limits, with which the third is +0.0.
+            settings.method = if sensor == LEVEL {
+                DIRECT
+            } else {
+                random.pick(&[DIRECT, ONE_POINT, TWO_POINTS])
+            };
+            settings.points = [2.0, 1000.0, 1.0, 0.0];
             settings.trial = settings.active.coefficients;
             settings.trial[2] = random.pick(&[-0.0, 1.0, -1.0, f32::from_bits(1)]);
         }

@@ -7,8 +7,8 @@ use crate::corrupt::{Corruption, OF_SONDE, OF_VOLUME};
 use crate::generate::{LONGEST_READ, REPLIES};
 use std::collections::BTreeMap;
 use std::num::FpCategory;
-use twin::calibration::{candidate, within_limits, LEVEL, LIMITS, ONE_POINT, TWO_POINTS};
-use twin::floats::join;
+use twin::calibration::{candidate, within_limits, Coefficients, DIRECT, LEVEL, LIMITS, ONE_POINT, TWO_POINTS};
+use twin::floats::{all_finite, join};
 use twin::frames::{judge, Change, Verdict, BROADCAST, JOURNAL_FULL, OUT_OF_LIMITS};
 use twin::framing::{Framing, Room};
 use twin::map::{locate, Field, LEVEL_IDS, LEVEL_PARAMETER, PARAMETERS};
@@ -44,7 +44,7 @@ pub enum Sort {
     Own,
 }
 
-/// Why a candidate has no second coefficient within limits.
+/// Why a candidate has no second coefficient within limits, or not by its size.
 #[derive(Clone, Copy, Debug, PartialEq, Eq, PartialOrd, Ord)]
 pub enum Division {
     ByPlusZero,
@@ -52,6 +52,8 @@ pub enum Division {
     Equal,
     Overflow,
     FirstOverflow,
+    /// The second is a zero, since the difference of the x overflows: all are finite.
+    DifferenceOverflow,
 }
 
 /// Sensors, coefficients and parameters count from 0.
@@ -115,6 +117,26 @@ pub enum Item {
         inside: bool,
     },
     ThirdRefused {
+        sensor: usize,
+    },
+    /// An update that was refused for its limits alone.
+    Failed {
+        sensor: usize,
+        method: u16,
+        full: bool,
+    },
+    FailedBy {
+        framing: Framing,
+        function: u8,
+        broadcast: bool,
+    },
+    /// The trial's third coefficient becomes +0.0 by it.
+    FailedThird {
+        sensor: usize,
+        method: u16,
+    },
+    /// The trial that it left, one coefficient of which was written anew, is accepted by the direct method.
+    Corrected {
         sensor: usize,
     },
     Division {
@@ -269,6 +291,14 @@ impl Coverage {
                 self.note(Item::Code { framing, code, broadcast });
                 self.note_refused(before, code, capacity, body);
             }
+            Verdict::OutOfLimits { sensor, candidate } => {
+                self.note(Item::FailedBy {
+                    framing,
+                    function: body[1],
+                    broadcast,
+                });
+                self.note_failed(before, sensor, candidate, capacity);
+            }
             Verdict::Write { sensor, change } => {
                 self.note(accepted);
                 if let Change::Update(_) = change {
@@ -301,7 +331,7 @@ impl Coverage {
         let counters = before.sonde.counters;
         match verdict {
             Verdict::Foreign => {}
-            Verdict::Refused(_) if counters.exceptions == u16::MAX => self.note(Item::Saturated(Counter::Exceptions)),
+            _ if verdict.code().is_some() && counters.exceptions == u16::MAX => self.note(Item::Saturated(Counter::Exceptions)),
             _ if counters.good == u16::MAX => self.note(Item::Saturated(Counter::Good)),
             _ => {}
         }
@@ -315,6 +345,9 @@ impl Coverage {
         });
         if before.in_use + 1 == capacity {
             self.note(Item::Full { capacity });
+        }
+        if corrected(sensor, settings) {
+            self.note(Item::Corrected { sensor });
         }
         let coefficients = candidate(settings.method, &settings.trial, &settings.points);
         for (coefficient, limits) in LIMITS[sensor].iter().enumerate() {
@@ -335,15 +368,32 @@ impl Coverage {
         match code {
             JOURNAL_FULL => self.note(Item::RefusedFull { capacity }),
             OUT_OF_LIMITS => {
-                let sensor = command(body) / 100 - 1;
-                self.note_out_of_limits(sensor, &before.sonde.settings[sensor]);
+                let settings = &before.sonde.settings[command(body) / 100 - 1];
+                let coefficients = candidate(settings.method, &settings.trial, &settings.points);
+                self.note_division(settings, coefficients);
             }
             _ => {}
         }
     }
 
-    fn note_out_of_limits(&mut self, sensor: usize, settings: &Settings) {
-        let coefficients = candidate(settings.method, &settings.trial, &settings.points);
+    fn note_division(&mut self, settings: &Settings, coefficients: Coefficients) {
+        if let Some(division) = division(settings, coefficients) {
+            self.note(Item::Division {
+                method: settings.method,
+                division,
+            });
+        }
+    }
+
+    fn note_failed(&mut self, before: &Before, sensor: usize, coefficients: Coefficients, capacity: usize) {
+        let settings = &before.sonde.settings[sensor];
+        let method = settings.method;
+        let full = before.in_use == capacity;
+        self.note(Item::Failed { sensor, method, full });
+        if settings.trial[2].to_bits() != coefficients[2].to_bits() {
+            self.note(Item::FailedThird { sensor, method });
+        }
+        self.note_division(settings, coefficients);
         for (coefficient, limits) in LIMITS[sensor].iter().enumerate() {
             // The others have to be within their limits, so that this one alone is the reason.
             let alone = |limit: f32| {
@@ -371,12 +421,6 @@ impl Coverage {
                 None if alone(0.0) => self.note(Item::ThirdRefused { sensor }),
                 _ => {}
             }
-        }
-        if let Some(division) = division(settings, coefficients) {
-            self.note(Item::Division {
-                method: settings.method,
-                division,
-            });
         }
     }
 
@@ -469,8 +513,22 @@ fn division(settings: &Settings, coefficients: [f32; 3]) -> Option<Division> {
         TWO_POINTS if x1 == x2 => Some(Division::Equal),
         ONE_POINT | TWO_POINTS if !coefficients[1].is_finite() => Some(Division::Overflow),
         TWO_POINTS if !coefficients[0].is_finite() => Some(Division::FirstOverflow),
+        TWO_POINTS if !(x1 - x2).is_finite() => Some(Division::DifferenceOverflow),
         _ => None,
     }
+}
+
+/// Whether the trial is what the points that are set failed with, but for one coefficient; the first can't be the one in force.
+fn corrected(sensor: usize, settings: &Settings) -> bool {
+    settings.method == DIRECT
+        && [ONE_POINT, TWO_POINTS].into_iter().any(|method| {
+            let failed = candidate(method, &settings.trial, &settings.points);
+            let differs = |other: &Coefficients, i: usize| failed[i].to_bits() != other[i].to_bits();
+            !within_limits(sensor, &failed)
+                && all_finite(&failed)
+                && differs(&settings.active.coefficients, 0)
+                && (0..3).filter(|&i| differs(&settings.trial, i)).count() == 1
+        })
 }
 
 const FRAMINGS: [Framing; 2] = [Framing::Rtu, Framing::Ascii];
@@ -582,6 +640,11 @@ fn required_frames(framing: Framing) -> Vec<Item> {
                 function,
                 broadcast,
             });
+            items.push(Item::FailedBy {
+                framing,
+                function,
+                broadcast,
+            });
         }
     }
     items.push(Item::Accepted {
@@ -597,6 +660,12 @@ fn required_updates() -> Vec<Item> {
     for (sensor, limits) in LIMITS.iter().enumerate() {
         let methods = if sensor == LEVEL { 1 } else { 3 };
         items.extend((0..methods).map(|method| Item::Update { sensor, method }));
+        let either = (0..methods).flat_map(|method| [(method, false), (method, true)]);
+        items.extend(either.map(|(method, full)| Item::Failed { sensor, method, full }));
+        if sensor != LEVEL {
+            items.extend([ONE_POINT, TWO_POINTS].map(|method| Item::FailedThird { sensor, method }));
+            items.push(Item::Corrected { sensor });
+        }
         for (coefficient, limits) in limits.iter().enumerate() {
             let sides = [(false, false), (false, true), (true, false), (true, true)];
             match limits {
@@ -613,7 +682,12 @@ fn required_updates() -> Vec<Item> {
     items.extend([1, 2, 1000].map(|capacity| Item::Full { capacity }));
     items.extend([1, 2, 1000].map(|capacity| Item::RefusedFull { capacity }));
     let one = [Division::ByPlusZero, Division::ByMinusZero, Division::Overflow];
-    let two = [Division::Equal, Division::Overflow, Division::FirstOverflow];
+    let two = [
+        Division::Equal,
+        Division::Overflow,
+        Division::FirstOverflow,
+        Division::DifferenceOverflow,
+    ];
     items.extend(one.map(|division| Item::Division {
         method: ONE_POINT,
         division,

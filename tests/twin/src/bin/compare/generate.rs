@@ -6,7 +6,7 @@ use crate::calls::{Call, Request};
 use crate::random::Random;
 use crate::values;
 use std::collections::VecDeque;
-use twin::calibration::{LEVEL, LIMITS, ONE_POINT, TWO_POINTS};
+use twin::calibration::{DIRECT, LEVEL, LIMITS, ONE_POINT, TWO_POINTS};
 use twin::floats::split;
 use twin::frames::{MASK, READ, WRITE_MANY, WRITE_ONE};
 use twin::map::{locate, Access, Field, Place, ENTER, LEAVE, LEVEL_IDS, PARAMETERS, UPDATE};
@@ -456,6 +456,9 @@ impl Generator {
         for _ in 0..self.random.pick(&[1, 1, 1, 2]) {
             self.plan_command(base, UPDATE);
         }
+        if sensor != LEVEL && self.random.chance(20) {
+            self.plan_correction(sensor, base);
+        }
         if self.random.chance(30) {
             self.plan_command(base, LEAVE);
         }
@@ -482,6 +485,16 @@ impl Generator {
             self.script
                 .push_back(write_long(base + 10 + 2 * coefficient as u16, value.to_bits()));
         }
+    }
+
+    /// What the update left of the trial goes into one by the direct method, with a slope or an offset written anew.
+    fn plan_correction(&mut self, sensor: usize, base: u16) {
+        let method = self.write_word(base + 6, DIRECT);
+        let coefficient = self.random.below(2);
+        let value = values::within(&mut self.random, sensor, coefficient);
+        let write = write_long(base + 10 + 2 * coefficient as u16, value.to_bits());
+        self.script.extend([method, write]);
+        self.plan_command(base, UPDATE);
     }
 
     fn slope(&mut self, sensor: usize) -> f32 {
@@ -528,6 +541,7 @@ impl Generator {
                 [huge, huge, -huge, -huge],
                 [huge, huge, 1.0, 1.0],
                 [huge, -1.0, 0.0, huge],
+                [huge, offset, -huge, slope],
             ]),
             6 => random.pick(&[
                 [1e-45, 1e-45, 0.0, 0.0],
