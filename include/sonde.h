@@ -77,7 +77,7 @@ typedef struct { uint16_t units; float sentinel; } SondeParameter;
 /* A calibration in progress. */
 typedef struct {
     bool calibrating;         /* calibration mode */
-    SondeCoefficients trial;  /* those that mode shows and changes */
+    SondeCoefficients trial;  /* those that mode shows: as written, or the candidate of an update, accepted or refused for its limits alone */
     uint16_t method;          /* 0 direct, 1 one point, 2 two points */
     SondePoints points;
 } SondeProcedure;
@@ -139,7 +139,8 @@ SondeMade sonde_measure(Sonde sonde, uint8_t sensor, bool present, float raw1, f
 /*
  * One Modbus frame, whole, at this clock (whole seconds). The reply has the framing of its request; `length` bytes of the reply buffer are to be
  * sent, 0 for none, and the bytes past them stay. The volume changes by an accepted calibration alone: write it to safe storage before the reply
- * is sent. Refused by 3, then 4; the length is then 0, and sonde, reply and volume stay as they were.
+ * is sent. Refused by 3, then 4; the length is then 0, and sonde, reply and volume stay as they were. A frame that is answered by an exception
+ * changes the sonde's counters and nothing else, but for an update that is refused for its limits alone (0x97): its candidate becomes the trial.
  *
  * `ascii` says which framing the frame has, and by that how long the reply buffer has to be, whatever the frame holds. The host cuts frames:
  *     RTU     (false) by silence; up to 256 bytes, the CRC-16 among them

@@ -1,7 +1,7 @@
 /*
  * A host in C, through include/sonde.h: begins a volume, calibrates sensor 2 over frames (two points), reads the calibration back, powers up
- * and audits, then does the same in ASCII, and in both framings side by side. Each step is compared with the bytes and numbers that documents 01
- * and 02 give; the exit status is 1 where one differs.
+ * and audits, then does the same in ASCII, and in both framings side by side; then an update that fails for its limits alone, read back and
+ * corrected. Each step is compared with the bytes and numbers that documents 01 and 02 give; the exit status is 1 where one differs.
  */
 #include <stdio.h>
 #include <string.h>
@@ -255,9 +255,43 @@ static void in_both_framings(void) {
     check(sonde_audit(ascii, other, WORDS).entries == 2, "both framings: 2 entries");
 }
 
+/* The slope 1.25 of the points (8, 10) and (0, 0) is outside the limits: it is shown, and nothing else changes. With y1 = 9 it is accepted. */
+static void failed_update(void) {
+    static uint16_t before[WORDS];
+    Sonde s = begun(volume);
+    s = ask(s, BYTES(17, 6, 0, 205, 0xE0, 0x00), BYTES(17, 6, 0, 205, 0xE0, 0x00), "failed update: mode on");
+    s = ask(s, BYTES(17, 6, 0, 206, 0, 2), BYTES(17, 6, 0, 206, 0, 2), "failed update: method: two points");
+    s = ask(s, BYTES(17, 16, 0, 216, 0, 2, 4, 0x41, 0, 0, 0), BYTES(17, 16, 0, 216, 0, 2), "failed update: x1 = 8");
+    s = ask(s, BYTES(17, 16, 0, 218, 0, 2, 4, 0x41, 0x20, 0, 0), BYTES(17, 16, 0, 218, 0, 2), "failed update: y1 = 10");
+    s.sensors[1].setup.procedure.trial.coefficient3 = -0.0f;
+    Sonde due = s;
+    due.sensors[1].setup.procedure.trial = (SondeCoefficients){0.0f, 1.25f, 0.0f};
+    due.counters.good++;
+    due.counters.exceptions++;
+    memcpy(before, volume, sizeof before);
+    s = ask(s, BYTES(17, 6, 0, 205, 0xE0, 0x01), BYTES(17, 0x86, 0x97), "failed update: code 0x97");
+    check(same_sonde(&s, &due) && memcmp(volume, before, sizeof before) == 0, "failed update: the candidate is the trial, and nothing else changes");
+    s = ask(s, BYTES(17, 3, 0, 210, 0, 4), BYTES(17, 3, 8, 0, 0, 0, 0, 0x3F, 0xA0, 0, 0), "failed update: offset 0 and slope 1.25 are shown");
+
+    /* Equal points have no candidate: it stays. */
+    s = ask(s, BYTES(17, 16, 0, 220, 0, 2, 4, 0x41, 0, 0, 0), BYTES(17, 16, 0, 220, 0, 2), "failed update: x2 = 8");
+    due = s;
+    due.counters.good++;
+    due.counters.exceptions++;
+    s = ask(s, BYTES(17, 6, 0, 205, 0xE0, 0x01), BYTES(17, 0x86, 0x97), "failed update: code 0x97 for equal points");
+    check(same_sonde(&s, &due) && memcmp(volume, before, sizeof before) == 0, "failed update: equal points change nothing");
+
+    s = ask(s, BYTES(17, 16, 0, 220, 0, 2, 4, 0, 0, 0, 0), BYTES(17, 16, 0, 220, 0, 2), "failed update: x2 = 0");
+    s = ask(s, BYTES(17, 16, 0, 218, 0, 2, 4, 0x41, 0x10, 0, 0), BYTES(17, 16, 0, 218, 0, 2), "failed update: y1 = 9");
+    s = ask(s, BYTES(17, 6, 0, 205, 0xE0, 0x01), BYTES(17, 6, 0, 205, 0xE0, 0x01), "failed update: corrected and accepted");
+    s = ask(s, BYTES(17, 3, 0, 210, 0, 4), BYTES(17, 3, 8, 0, 0, 0, 0, 0x3F, 0x90, 0, 0), "failed update: slope 1.125");
+    check(sonde_audit(s, volume, WORDS).entries == 1, "failed update: 1 entry");
+}
+
 int main(void) {
     in_rtu();
     in_ascii();
     in_both_framings();
+    failed_update();
     return failed;
 }

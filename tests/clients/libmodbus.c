@@ -159,6 +159,10 @@ static void calibration(void) {
     writes(106, 1, "method: one point");
     refused_by(0x97, 105, 0xE001, "code 0x97, update with x1 = 0: EMBBADEXC");
     writes_float(116, 1000, "x1 = 1000");
+    writes_float(118, 5000, "y1 = 5000");
+    refused_by(0x97, 105, 0xE001, "code 0x97, a constant outside the limits: EMBBADEXC");
+    reads_floats(110, FLOATS(0, 5), "sensor 1: coefficients of the failed update 0, 5000 / 1000");
+    reads(8, WORDS(0), "no entry in use");
     writes_float(118, 1250, "y1 = 1250");
     masks(105, 0, 0xE001, "update, by a mask write");
     writes(105, 0xE002, "mode off");

@@ -99,6 +99,10 @@ calibration() {
     writes 4 106 1 'method: one point'
     refused "$other" 'code 0x97, update with x1 = 0' -r 105 "$device" 0xE001
     writes 4:float 116 1000 'x1 = 1000'
+    writes 4:float 118 5000 'y1 = 5000'
+    refused "$other" 'code 0x97, a constant outside the limits' -r 105 "$device" 0xE001
+    reads 4:float 110 '0 5' 'sensor 1, coefficients of the failed update'
+    reads 4 8 0 'entries in use'
     writes 4:float 118 1250 'y1 = 1250'
     writes 4 105 0xE001 'update'
     writes 4 105 0xE002 'mode off'

@@ -214,7 +214,9 @@ impl Sonde {
     }
 
     /// One Modbus frame, whole: RTU with its CRC-16, or ASCII from the colon to LF. Hands back the reply to send, in the same framing, empty for
-    /// none. The volume changes by an accepted calibration alone: write it to safe storage before the reply is sent.
+    /// none. The volume changes by an accepted calibration alone: write it to safe storage before the reply is sent. A frame that is answered by
+    /// an exception changes the counters and nothing else, but for an update that is refused for its limits alone (0x97): its candidate becomes
+    /// the trial coefficients, which the registers show.
     ///
     /// ```
     /// use sonde::{Arrival, Error, Sonde, ASCII_REPLY_BYTES, REPLY_BYTES};
@@ -239,6 +241,20 @@ impl Sonde {
     /// let mut buffer = [0; ASCII_REPLY_BYTES];
     /// let reply = sonde.frame(b":010325000001D6\r\n", &mut buffer, &mut volume, Arrival::ascii(0))?;
     /// assert_eq!(reply, b":0183027A\r\n");
+    ///
+    /// // Sensor 2 by one point, 8 in a standard of 10: the slope 1.25 is refused for its limits, and then shown.
+    /// for (request, reply) in [
+    ///     (":010600CDE0004C\r\n", ":010600CDE0004C\r\n"),
+    ///     (":010600CE00012A\r\n", ":010600CE00012A\r\n"),
+    ///     (":011000D800020441000000D0\r\n", ":011000D8000215\r\n"),
+    ///     (":011000DA00020441200000AE\r\n", ":011000DA000213\r\n"),
+    ///     (":010600CDE0014B\r\n", ":018697E2\r\n"),
+    ///     (":010300D2000426\r\n", ":010308000000003FA0000015\r\n"),
+    /// ] {
+    ///     let answer = sonde.frame(request.as_bytes(), &mut buffer, &mut volume, Arrival::ascii(0))?;
+    ///     assert_eq!(answer, reply.as_bytes());
+    /// }
+    /// assert_eq!(sonde.audit(&volume)?, 0);
     /// # Ok::<(), Error>(())
     /// ```
     pub fn frame<'a>(&mut self, frame: &[u8], reply: &'a mut [u8], volume: &mut [u16], arrival: Arrival) -> Result<&'a [u8], Error> {
