@@ -695,6 +695,80 @@ def calibration(desk, registers, _):
     equal([n for n in range(0xDFF0, 0xE010) if desk.write(205, n) == 0x84], [*range(0xDFF0, 0xE000), *range(0xE003, 0xE010)], "other commands")
 
 
+def refused_by_limits(desk, registers, _):
+    """What the coefficients' registers show after each kind of 0x97, and what stays."""
+    registers.says("puts the candidate into the trial coefficients, all three")
+    registers.says("readings, last and next calibration, mode, method and points stay")
+    cases = {  # by the row's first words: method, points, and what is shown, None for what was shown before
+        "the candidate is finite": [
+            (1, (8.0, 10.0, 0.0, 0.0), (0.0, 1.25)),
+            (2, (1.0, 2.0, 2.0, 20.0), (-16.0, 18.0)),
+            (2, (3e38, 5.0, -3e38, 6.0), (5.0, -0.0)),
+        ],
+        "x1 = 0 by method 1": [(1, (-0.0, 1.0, 0.0, 0.0), None), (2, (5.0, 1.0, 5.0, 2.0), None)],
+        "a coefficient of the candidate": [(1, (1e-40, 3e38, 0.0, 0.0), None), (2, (1.0, 3e38, 2.0, -3e38), None)],
+    }
+    rows = registers.table("Why the update is refused", "What registers 10 to 13 (sensor 3: 10 to 15) then show")
+    equal(len(rows), len(cases), "rows of reasons")
+    for (why, what, _), (name, tries) in zip(rows, cases.items()):
+        assert why.startswith(name), f"{why}: not {name}"
+        for method, points, shown in tries:
+            equal(what, "the candidate" if shown else "what they showed before", why)
+            desk.fresh()
+            desk.measure(2, 8.0)
+            assert desk.write(205, 0xE000) == 0 and desk.write(210, *words_of(0.125)) == 0 and desk.write(203, 1, 2) == 0
+            words, reading = [words_of(value) for value in points], desk.read(230, 8)
+            equal(desk.calibrate(2, [], method, words), 0x97, f"{why}: {points}")
+            equal(desk.read(210, 4), [word for value in shown or (0.125, 1.0) for word in words_of(value)], f"{why}: {points}")
+            equal(desk.read(200, 7), [2, 0, 0, 1, 2, 1, method], "number, last, next, mode and method")
+            equal(desk.read(216, 8), [word for pair in words for word in pair], "points")
+            equal(desk.read(230, 8) + desk.read(8), reading + [0], "reading and entries in use")
+    desk.fresh()
+    equal(desk.calibrate(3, [2.0, 0.0, -11.0]), 0x97, "the direct method on sensor 3")
+    equal(desk.read(310, 6), words_of(2.0) + words_of(0.0) + words_of(-11.0), "what was written, on sensor 3")
+
+
+def after_a_refusal(desk, registers, _):
+    """From points to method 0, what drops the candidate, a full journal, and address 0."""
+    for sentence in (
+        "By method 0 the update takes what the registers show: a technician who goes from points to method 0 after such a refusal, and writes one coefficient, calibrates with the other one of the refused candidate",
+        "0xE002 drops what is shown; so does a restart. After 0xE002 the registers show the coefficients in force again, and a 0xE000 after it starts from those",
+        "a candidate outside them is 0x97 and is shown. One within them is 0xC0, which leaves the trial as it was. So does 0x92",
+        "At address 0 it is the same without a reply. The exceptions' counter and the registers tell",
+    ):
+        registers.says(sentence)
+    points = [words_of(value) for value in (1.0, 2.0, 2.0, 20.0)]
+
+    def shows(offset, slope, what):
+        equal(desk.read(410, 4), words_of(offset) + words_of(slope), what)
+
+    desk.fresh(88)
+    for command in (0xE002, 0xE000):
+        equal(desk.calibrate(4, [], 2, points), 0x97, "slope 18")
+        shows(-16.0, 18.0, "the refused candidate")
+        assert desk.write(405, 0xE002) == 0 and desk.write(405, command) == 0
+        shows(0.0, 1.0, "what is in force")
+    equal(desk.calibrate(4, [], 2, points), 0x97, "slope 18")
+    assert desk.write(406, 0) == 0 and desk.write(412, *words_of(7.0)) == 0
+    equal(desk.write(405, 0xE001), 0, "an update by method 0, with another slope")
+    shows(-16.0, 7.0, "the refused candidate's offset, in force")
+    equal(desk.write(405, 0xE001), 0xC0, "a candidate within the limits, a full journal")
+    shows(-16.0, 7.0, "after 0xC0")
+    assert desk.write(406, 1) == 0 and desk.write(416, *words_of(2.0)) == 0 and desk.write(418, *words_of(17.0)) == 0
+    equal(desk.write(405, 0xE001), 0x97, "a candidate outside the limits, a full journal")
+    shows(0.0, 8.5, "the candidate, with a full journal")
+    assert desk.write(418, *words_of(40.0)) == 0
+    exceptions, = desk.read(6)
+    equal(desk.ask(f"frame 0 {hexadecimal(sealed([0, 6, 1, 0x95, 0xE0, 1]), 2)}"), ["0"], "number and reply of an update at address 0")
+    equal(desk.read(6), [exceptions + 1], "the exceptions")
+    shows(0.0, 20.0, "the candidate of an update at address 0")
+    assert desk.call("power-up 1") == 0
+    shows(-16.0, 7.0, "after a restart")
+    equal(desk.write(405, 0xE001), 0x92, "an update with mode off")
+    assert desk.write(405, 0xE000) == 0
+    shows(-16.0, 7.0, "the trial after a restart")
+
+
 def restart(desk, registers, _):
     """Everything is changed, then the sonde is powered up: what differs from a fresh one's is what the manual says is kept."""
     kept, lost = (row[1].split(", ") for row in registers.table("At a restart", "What"))
@@ -902,7 +976,7 @@ def row_of_volumes(desk, _, archive):
 CHECKS = {
     "REGISTERS.md": (
         *(checksum, layouts, ascii_checksum, lengths, bad_ascii, digits, ascii_exchange, said, order, broadcast, past_the_end),
-        *(existing, access, parameters, limits, readings, in_mode, calibration, restart),
+        *(existing, access, parameters, limits, readings, in_mode, calibration, refused_by_limits, after_a_refusal, restart),
     ),
     "ARCHIVE.md": (rounding, names, sizes, no_coefficients, third, flips, either_framing, row_of_volumes),
 }
