@@ -833,6 +833,23 @@ def float_cells(cell):
     return [[int(word, 16) for word in pair.split()] for pair in re.findall(r"`([0-9A-F]{4} [0-9A-F]{4})`", cell)]
 
 
+def no_word_of_refused(desk, _, archive):
+    """A volume before and after updates that are refused by each code, one of them with coefficients that can be read."""
+    archive.says("One that was refused leaves no word in it, also where its coefficients could be read on the wire")
+    desk.fresh(88)
+    before = desk.words()
+    equal(desk.write(205, 0xE001), 0x92, "mode off")
+    for points, shown in ((8.0, 10.0), 1.25), ((0.0, 10.0), 1.25):
+        equal(desk.calibrate(2, [], 1, [words_of(value) for value in points]), 0x97, f"the point {points}")
+        equal(desk.read(212, 2), words_of(shown), f"the slope after the point {points}")
+    equal(desk.words(), before, "the volume without an entry")
+    equal(desk.calibrate(1), 0, "an update into the last entry")
+    before = desk.words()
+    equal(desk.calibrate(1), 0xC0, "a full journal")
+    equal(desk.calibrate(4, [0.0, 9.0]), 0x97, "outside the limits, a full journal")
+    equal(desk.words(), before, "the volume with an entry")
+
+
 def rounding(desk, _, archive):
     """The calibrations by which a decoder can be tested; each tells the stated arithmetic from another."""
     archive.says("to nearest, ties to even. Subnormals .* are kept and not flushed to zero")
@@ -978,7 +995,7 @@ CHECKS = {
         *(checksum, layouts, ascii_checksum, lengths, bad_ascii, digits, ascii_exchange, said, order, broadcast, past_the_end),
         *(existing, access, parameters, limits, readings, in_mode, calibration, refused_by_limits, after_a_refusal, restart),
     ),
-    "ARCHIVE.md": (rounding, names, sizes, no_coefficients, third, flips, either_framing, row_of_volumes),
+    "ARCHIVE.md": (no_word_of_refused, rounding, names, sizes, no_coefficients, third, flips, either_framing, row_of_volumes),
 }
 
 

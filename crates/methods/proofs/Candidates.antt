@@ -137,6 +137,7 @@ candidate-fits (TwoPoints x1 y1 x2 y2) t =
       fits-coefficient3 = ofBits-fits binary32 0;
     })
 
+-- so does what it makes
 pub made-fits : (m : Method) (c : Coefficients) → MethodFits m → candidateOf m ≡ Made c → CoefficientsFit c
 made-fits m c t e = rw e at (candidate-fits m t)
 

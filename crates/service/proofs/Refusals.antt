@@ -44,7 +44,7 @@ use Rattle.service.specs.Agrees.{openings, journalAgrees, agrees}
 use Rattle.service.specs.Reads.{deviceOf, registerAt, shownFrom, readingBody}
 use Rattle.service.specs.Frame.{firstWord, secondWord, Answer, answer, refusalBody, writeBody, contextOf, writtenBy, writeAt, isUpdate, carriedOut, codeBy, planFor, answerOf, Outcome, left, frameOf}
 use Rattle.service.specs.Framings.{sentBy}
-use Rattle.service.specs.Refusals.{refusedLeaves, FailedUpdate, coefficientWords, CandidateShown, FailedUpdatesShown, OtherRefusalsKeep}
+use Rattle.service.specs.Refusals.{refusedLeaves, refusedWith, FailedUpdate, coefficientWords, CandidateShown, FailedUpdatesShown, OtherRefusalsKeep}
 use Rattle.service.specs.declared.Arrival.{Arrival}
 use Rattle.service.proofs.Kept.{with-setup-same, code-keeps}
 use Rattle.service.proofs.Parts.{valid-sensors, valid-sonde, frame-facts}
@@ -181,7 +181,7 @@ write-fails d frame w a s c u =
 module _ (d : Sonde) (frame reply w : List ℕ) (a : Arrival) (s : ℕ) (c : Coefficients) (h : agrees d w ≡ true) (room : roomIn (a .ascii) ≤ length reply)
     (u : FailedUpdate d frame a s c) where
   abbrev o : Outcome
-  o = left (answer Exception (refusalBody (headerOf (bodyOf (carriedIn (a .ascii) frame))) 0x97) (withSetup d s (withTrial (setupAt d s) c)) w) (a .ascii) reply
+  o = refusedWith frame reply w a 0x97 (withSetup d s (withTrial (setupAt d s) c))
 
   frame-leaves : frameOf d frame reply w a ≡ o
   unfolding frameOf answerOf carriedOut writeBody

@@ -38,6 +38,11 @@ refusedLeaves d (Refused code) = d
 refusedLeaves d (Reading start count) = d
 refusedLeaves d (Writing s f v) = cond (isUpdate s (sensorAt d s) f v) (withSetup d s (refusedUpdate s (setupAt d s))) d
 
+-- what the call of a frame that a code refuses leaves, d being the sonde before the exception is counted: number 0, the exception reply (none at
+-- address 0), and the volume as it was
+abbrev pub refusedWith : List ℕ → List ℕ → List ℕ → Arrival → ℕ → Sonde → Outcome
+refusedWith frame reply w a code d = left (answer Exception (refusalBody (headerOf (bodyOf (carriedIn (a .ascii) frame))) code) d w) (a .ascii) reply
+
 -- ---- the figures of a failed update
 
 -- "an update that is refused for its limits alone": a frame that writes 0xE001 to the command register of sensor s, in mode, where the candidate by
@@ -62,8 +67,8 @@ coefficientWords c =
 
 -- what the call of such a frame leaves, o
 pub record CandidateShown (d : Sonde) (frame reply w : List ℕ) (a : Arrival) (s : ℕ) (c : Coefficients) (o : Outcome) : Type 0 where
-  -- number 0, counters and reply of any 0x97, the candidate in the trial figures of sensor s, and nothing else
-  pub leaves : o ≡ left (answer Exception (refusalBody (headerOf (bodyOf (carriedIn (a .ascii) frame))) 0x97) (withSetup d s (withTrial (setupAt d s) c)) w) (a .ascii) reply
+  -- counters and reply of any 0x97, the candidate in the trial figures of sensor s, and nothing else
+  pub leaves : o ≡ refusedWith frame reply w a 0x97 (withSetup d s (withTrial (setupAt d s) c))
   -- "In force and journal are as before": of each sensor figures in force, last and next calibration,
   pub active : (t : ℕ) → IsSensor t → setupAt (o .sonde) t .active ≡ setupAt d t .active
   -- every word of the volume, and so the entries, and their replay
@@ -88,6 +93,4 @@ abbrev pub OtherRefusalsKeep : Type 0
 OtherRefusalsKeep =
     (d : Sonde) (frame reply w : List ℕ) (a : Arrival) → agrees d w ≡ true → roomIn (a .ascii) ≤ length reply
     → (codeBy d w a (planFor (d .address) (carriedIn (a .ascii) frame)) ≡ 0 → ⊥) → ((s : ℕ) (c : Coefficients) → FailedUpdate d frame a s c → ⊥)
-    → frameOf d frame reply w a
-    ≡ left (answer Exception (refusalBody (headerOf (bodyOf (carriedIn (a .ascii) frame))) (codeBy d w a (planFor (d .address) (carriedIn (a .ascii) frame)))) d w)
-    (a .ascii) reply
+    → frameOf d frame reply w a ≡ refusedWith frame reply w a (codeBy d w a (planFor (d .address) (carriedIn (a .ascii) frame))) d
