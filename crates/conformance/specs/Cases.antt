@@ -85,7 +85,7 @@ updateSmall = 0x3A ∷ 0x30 ∷ 0x31 ∷ 0x30 ∷ 0x36 ∷ 0x30 ∷ 0x30 ∷ 0x3
 abbrev pub fullAscii : List ℕ
 fullAscii = 0x3A ∷ 0x30 ∷ 0x31 ∷ 0x38 ∷ 0x36 ∷ 0x43 ∷ 0x30 ∷ 0x42 ∷ 0x39 ∷ 0x0D ∷ 0x0A ∷ []
 
--- to sensor 2: mode on, two points, x1 = 8 with y1 = 10 or 9, and x2 = 8 for 0; update; the read of its coefficients
+-- to sensor 2: mode on; method 2, two points; x1 = 8; y1 = 10, and 9; x2 = 8, equal to x1; update; the read of coefficients 1 and 2
 abbrev pub oxygenMode : List ℕ
 oxygenMode = 0x01 ∷ 0x06 ∷ 0x00 ∷ 0xCD ∷ 0xE0 ∷ 0x00 ∷ 0x51 ∷ 0xF5 ∷ []
 

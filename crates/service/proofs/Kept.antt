@@ -150,6 +150,43 @@ begin-keeps d w =
     P : Begun → Type 0
     P r = drop 64 (r .volume) ≡ drop 64 w
 
+-- ---- a code
+
+-- a sensor's own setup, put back
+pub with-setup-same : (d : Sonde) (s : ℕ) → withSetup d s (setupAt d s) ≡ d
+unfolding withSetup withSensor setupAt sensorAt sensorWithSetup
+with-setup-same d s = ap (λ (l : List Sensor). sonde (d .address) l (d .counters)) (set-getD (d .sensors) (s - 1) noSensor)
+
+-- the write of a field that is refused
+write-refused : (d : Sonde) (h : Header) (body w : List ℕ) (a : Arrival) (s : ℕ) (f : Field) (v : Value) → (codeOf (writeAt d w a s f v) ≡ 0 → ⊥)
+    → carriedOut d h body w s (writeAt d w a s f v) ≡ answer Exception (refusalBody h (codeOf (writeAt d w a s f v))) (refusedLeaves d (Writing s f v)) w
+unfolding carriedOut writeBody writtenBy isUpdate setupAt
+write-refused d h body w a s f v n =
+    let x = sensorAt d s in
+    let high = firstWord (sensorRegister s x (f .offset)) v in
+    rw (
+      ne-eqb (codeOf (writeAt d w a s f v)) 0 n,
+      refused-journals (writeAt d w a s f v) n,
+      refused-leaves s (x .setup) f high (secondWord v) (contextOf w a) n,
+    )
+    (go (eqb (f .offset) 5 && eqb high 0xE001))
+  where
+    go : (u : Bool) → answer Exception (refusalBody h (codeOf (writeAt d w a s f v))) (withSetup d s (cond u (refusedUpdate s (setupAt d s)) (setupAt d s))) w
+        ≡ answer Exception (refusalBody h (codeOf (writeAt d w a s f v))) (cond u (withSetup d s (refusedUpdate s (setupAt d s))) d) w
+    go true = refl
+    go false = rw (with-setup-same d s)
+
+-- what is refused by a code has the refusal's answer, the volume stays, and so does the sonde, but for the trial coefficients of a sensor whose
+-- update is refused for its limits alone
+pub code-keeps : (d : Sonde) (h : Header) (body w : List ℕ) (a : Arrival) (p : Plan) → (codeBy d w a p ≡ 0 → ⊥)
+    → planned d h body w a p ≡ answer Exception (refusalBody h (codeBy d w a p)) (refusedLeaves d p) w
+code-keeps d h body w a Bad n = absurd (n refl)
+code-keeps d h body w a Foreign n = absurd (n refl)
+code-keeps d h body w a BroadcastRead n = absurd (n refl)
+code-keeps d h body w a (Refused code) n = refl
+code-keeps d h body w a (Reading start count) n = absurd (n refl)
+code-keeps d h body w a (Writing s f v) n = write-refused d h body w a s f v n
+
 -- ---- a frame
 
 -- the words of a volume after a frame, v, against those before it, w: all stay where nothing is appended, and those past the entries in use
@@ -207,40 +244,3 @@ frame-keeps d frame reply w a =
         let k = planned-volume w v a d (headerOf (bodyOf c)) (bodyOf c) (planFor (d .address) c) (frame-facts (d .address) c) in
         let bytes = replyOf (a .ascii) (answerOf d c w a .body) in
         record { whole = k .whole; free = k .free; past = drop-append-seam bytes (drop (length bytes) reply) }
-
--- ---- a code
-
--- a sensor's own setup, put back
-pub with-setup-same : (d : Sonde) (s : ℕ) → withSetup d s (setupAt d s) ≡ d
-unfolding withSetup withSensor setupAt sensorAt sensorWithSetup
-with-setup-same d s = ap (λ (l : List Sensor). sonde (d .address) l (d .counters)) (set-getD (d .sensors) (s - 1) noSensor)
-
--- the write of a field that is refused
-write-refused : (d : Sonde) (h : Header) (body w : List ℕ) (a : Arrival) (s : ℕ) (f : Field) (v : Value) → (codeOf (writeAt d w a s f v) ≡ 0 → ⊥)
-    → carriedOut d h body w s (writeAt d w a s f v) ≡ answer Exception (refusalBody h (codeOf (writeAt d w a s f v))) (refusedLeaves d (Writing s f v)) w
-unfolding carriedOut writeBody writtenBy isUpdate setupAt
-write-refused d h body w a s f v n =
-    let x = sensorAt d s in
-    let high = firstWord (sensorRegister s x (f .offset)) v in
-    rw (
-      ne-eqb (codeOf (writeAt d w a s f v)) 0 n,
-      refused-journals (writeAt d w a s f v) n,
-      refused-leaves s (x .setup) f high (secondWord v) (contextOf w a) n,
-    )
-    (go (eqb (f .offset) 5 && eqb high 0xE001))
-  where
-    go : (u : Bool) → answer Exception (refusalBody h (codeOf (writeAt d w a s f v))) (withSetup d s (cond u (refusedUpdate s (setupAt d s)) (setupAt d s))) w
-        ≡ answer Exception (refusalBody h (codeOf (writeAt d w a s f v))) (cond u (withSetup d s (refusedUpdate s (setupAt d s))) d) w
-    go true = refl
-    go false = rw (with-setup-same d s)
-
--- what is refused by a code has the refusal's answer, the volume stays, and so does the sonde, but for the trial coefficients of a sensor whose
--- update is refused for its limits alone
-pub code-keeps : (d : Sonde) (h : Header) (body w : List ℕ) (a : Arrival) (p : Plan) → (codeBy d w a p ≡ 0 → ⊥)
-    → planned d h body w a p ≡ answer Exception (refusalBody h (codeBy d w a p)) (refusedLeaves d p) w
-code-keeps d h body w a Bad n = absurd (n refl)
-code-keeps d h body w a Foreign n = absurd (n refl)
-code-keeps d h body w a BroadcastRead n = absurd (n refl)
-code-keeps d h body w a (Refused code) n = refl
-code-keeps d h body w a (Reading start count) n = absurd (n refl)
-code-keeps d h body w a (Writing s f v) n = write-refused d h body w a s f v n

@@ -44,7 +44,7 @@ pub enum Sort {
     Own,
 }
 
-/// Why a candidate has no second coefficient within limits, or not by its size.
+/// Where working a candidate out divides by zero or leaves the finite floats.
 #[derive(Clone, Copy, Debug, PartialEq, Eq, PartialOrd, Ord)]
 pub enum Division {
     ByPlusZero,
