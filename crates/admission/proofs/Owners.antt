@@ -15,4 +15,4 @@ owner-below body Foreign f = lit≤ tt
 owner-below body BroadcastRead f = lit≤ tt
 owner-below body (Refused code) f = lit≤ tt
 owner-below body (Reading start count) f = omega (arith, f .least, f .ends)
-owner-below body (Writing o x v) f = f .located .is-sensor .1
+owner-below body (Writing o x v) f = f .located .owner-most

@@ -98,10 +98,10 @@ all-fit c f =
     rw (is-true (fits binary32 (c .coefficient1)) (f .fits-coefficient1), is-true (fits binary32 (c .coefficient2)) (f .fits-coefficient2), is-true (fits binary32 (c .coefficient3)) (f .fits-coefficient3))
 
 -- a sonde that matches, with a volume just begun
-begin-invariant : {d : Sonde} {address : ℕ} {ys : List Setup} → Matches d address ys → (w : List ℕ) → 88 ≤ length w
-    → Invariant (state d (beginWords w (openings d))) (model address ys (newJournal (actives ys) (length w)))
+begin-invariant : {d : Sonde} {address technician : ℕ} {ys : List Setup} → Matches d address technician ys → (w : List ℕ) → 88 ≤ length w
+    → Invariant (state d (beginWords w (openings d))) (model address technician ys (newJournal (actives ys) (length w)))
 unfolding validCalibration openings actives
-begin-invariant {d} {address} {ys} m w l =
+begin-invariant {d} {address} {technician} {ys} m w l =
     rw (← same)
     (record {
       matches = m;

@@ -8,12 +8,13 @@ use lib.ListN.{length}
 use Rattle.framing.specs.Framing.{Carried, carriedIn, bodyOf, roomIn}
 use Rattle.modbus.specs.Request.{headerOf}
 use Rattle.modbus.specs.declared.Header.{Header}
-use Rattle.journal.specs.Stores.{spareIn}
 use Rattle.journal.proofs.Holds.{holds-used}
 use Rattle.plans.specs.declared.Plan.{Plan}
 use Rattle.plans.specs.declared.Plan.the-variants.{Bad, Foreign, BroadcastRead, Refused, Reading, Writing}
 use Rattle.plans.proofs.Plans.{Facts}
-use Rattle.service.specs.Frame.{planFor, contextOf, planned, answerOf, left, frameOf}
+use Rattle.commands.specs.Commands.{contextOf}
+use Rattle.service.specs.Reads.{deviceOf, deviceIn}
+use Rattle.service.specs.Frame.{planFor, planned, answerOf, left, frameOf}
 use Rattle.service.specs.declared.Arrival.{Arrival}
 use Rattle.service.proofs.Parts.{frame-facts}
 use Rattle.agreement.specs.Model.{Model, modelPlanned, modelFrame}
@@ -27,17 +28,17 @@ use Rattle.agreement.proofs.Writes.{Answered, counted-keeps, write-keep
 module _ {x : State} {b : Model} (h : Invariant x b) where
   -- what a frame asks for
   plan-keeps : (a : Arrival) (hd : Header) (body : List ℕ) (p : Plan) → Facts body p
-      → Answered b (planned (x .sonde) hd body (x .volume) a p) (modelPlanned b a p) (acceptedIn (x .sonde) (contextOf (x .volume) a) p)
+      → Answered b (planned (x .sonde) hd body (x .volume) a p) (modelPlanned b a p) (acceptedIn (x .sonde) (contextOf (deviceIn (x .sonde) (x .volume) a)) p)
   plan-keeps a hd body Bad l = counted-keeps h _ _
   plan-keeps a hd body Foreign l = counted-keeps h _ _
   plan-keeps a hd body BroadcastRead l = counted-keeps h _ _
   plan-keeps a hd body (Refused code) l = counted-keeps h _ _
   plan-keeps a hd body (Reading start count) l = counted-keeps h _ _
-  plan-keeps a hd body (Writing s f v) l = write-keeps h a hd body s f v (l .located)
+  plan-keeps a hd body (Writing o f v) l = write-keeps h a hd body o f v (l .located)
 
   -- the entries in use are those that were accepted
-  context-same : (a : Arrival) → contextAfter (b .journal .entries) x a ≡ contextOf (x .volume) a
-  unfolding spareIn
+  context-same : (a : Arrival) → contextAfter (b .journal .entries) x a ≡ contextOf (deviceIn (x .sonde) (x .volume) a)
+  unfolding deviceOf
   context-same a = rw (holds-used (x .volume) (b .journal) (h .holds))
 
   -- any frame of either framing, with any reply buffer

@@ -32,7 +32,7 @@ use Rattle.agreement.proofs.Sondes.{Matches, sonde-valid, setup-same, s
 
 -- the sonde matches the book, the volume holds the book's journal, and what the journal comes to is in force
 pub record Invariant (x : State) (b : Model) : Type 0 where
-  pub matches : Matches (x .sonde) (b .address) (b .setups)
+  pub matches : Matches (x .sonde) (b .address) (b .technician) (b .setups)
   pub holds : Holds (x .volume) (b .journal)
   pub followed : (s : ℕ) → IsSensor s → latest s (ofSensor (b .journal .opening) s) (b .journal .entries) ≡ setupOf (b .setups) s .active .calibration
 
@@ -95,6 +95,7 @@ module _ {x : State} {b : Model} (h : Invariant x b) where
         finite = λ s k. active-parts s (setupAt (x .sonde) s) (setup-valid (h .matches) s k) .0;
         limits = λ s k. active-parts s (setupAt (x .sonde) s) (setup-valid (h .matches) s k) .1;
         address = h .matches .address-is;
+        technician = h .matches .technician-is;
         setups = setup-same (h .matches);
         audited = rw (agrees-with, holds-used (x .volume) (b .journal) (h .holds));
       }

@@ -1,5 +1,5 @@
--- A sonde beside the book's address and setups: valid, of the format and the same in every value that frames write. It stays so where a sensor
--- is measured, a setup is stored, a counter counts, and after a power-up; a fresh one is so. Assumes nothing.
+-- A sonde beside the book's address, technician and setups: valid, of the format and the same in every value that frames write. It stays so where a
+-- sensor is measured, a setup or the technician's number is stored, a counter counts, and after a power-up; a fresh one is so. Assumes nothing.
 use mathlib.Core.Path.{_≡_, refl}
 use mathlib.Core.Bool.{Bool, true, false, _&&_, cond}
 use mathlib.Core.List.{List, [], _∷_}
@@ -21,7 +21,7 @@ use Rattle.sensors.specs.declared.Setup.{Setup}
 use Rattle.sensors.specs.declared.Sensor.{Sensor}
 use Rattle.sensors.proofs.Setups.{SetupFits, valid-setup-parts, valid-sensor-parts, powered-valid, powered-fits, fresh-fits, fresh-sensor-valid}
 use Rattle.sensors.proofs.Changed.{measured-valid}
-use Rattle.state.specs.Sonde.{sonde, freshSonde, poweredSensor, poweredSonde, noSensor, sensorAt, setupAt, withSensor, withSetup, measuredAt, countedBy, addressValid, validSonde}
+use Rattle.state.specs.Sonde.{sonde, freshSonde, poweredSensor, poweredSonde, noSensor, sensorAt, setupAt, withSensor, withSetup, withTechnician, measuredAt, countedBy, addressValid, validSonde}
 use Rattle.state.specs.declared.Counters.{Counters}
 use Rattle.state.specs.declared.Event.{Event}
 use Rattle.state.specs.declared.Sonde.{Sonde}
@@ -35,27 +35,29 @@ pub record SensorMatches (s : ℕ) (x : Sensor) (y : Setup) : Type 0 where
   pub valid-sensor : validSensor s x ≡ true
   pub fits : SetupFits (x .setup)
 
--- a sonde beside the book's address and setups
-pub record Matches (d : Sonde) (address : ℕ) (ys : List Setup) : Type 0 where
+-- a sonde beside the book's address, technician and setups
+pub record Matches (d : Sonde) (address technician : ℕ) (ys : List Setup) : Type 0 where
   pub address-is : d .address ≡ address
+  pub technician-is : d .technician ≡ technician
   pub address-valid : addressValid (d .address) ≡ true
   pub four-sensors : length (d .sensors) ≡ 4
   pub four-setups : length ys ≡ 4
   pub each : (s : ℕ) → IsSensor s → SensorMatches s (sensorAt d s) (setupOf ys s)
 
 -- four sensors that match
-of-four : {x1 x2 x3 x4 : Sensor} {y1 y2 y3 y4 : Setup} (address : ℕ) (c : Counters) → addressValid address ≡ true
+of-four : {x1 x2 x3 x4 : Sensor} {y1 y2 y3 y4 : Setup} (address technician : ℕ) (c : Counters) → addressValid address ≡ true
     → SensorMatches 1 x1 y1 → SensorMatches 2 x2 y2 → SensorMatches 3 x3 y3 → SensorMatches 4 x4 y4
-    → Matches (sonde address (x1 ∷ x2 ∷ x3 ∷ x4 ∷ []) c) address (y1 ∷ y2 ∷ y3 ∷ y4 ∷ [])
+    → Matches (sonde address technician (x1 ∷ x2 ∷ x3 ∷ x4 ∷ []) c) address technician (y1 ∷ y2 ∷ y3 ∷ y4 ∷ [])
 unfolding sensorAt setupOf
-of-four {x1} {x2} {x3} {x4} {y1} {y2} {y3} {y4} address c v m1 m2 m3 m4 =
+of-four {x1} {x2} {x3} {x4} {y1} {y2} {y3} {y4} address technician c v m1 m2 m3 m4 =
     record {
       address-is = refl;
+      technician-is = refl;
       address-valid = v;
       four-sensors = refl;
       four-setups = refl;
       each =
-          sensor-cases (λ s. SensorMatches s (sensorAt (sonde address (x1 ∷ x2 ∷ x3 ∷ x4 ∷ []) c) s) (setupOf (y1 ∷ y2 ∷ y3 ∷ y4 ∷ []) s)) m1 m2 m3 m4;
+          sensor-cases (λ s. SensorMatches s (sensorAt (sonde address technician (x1 ∷ x2 ∷ x3 ∷ x4 ∷ []) c) s) (setupOf (y1 ∷ y2 ∷ y3 ∷ y4 ∷ []) s)) m1 m2 m3 m4;
     }
 
 -- ---- one of four replaced
@@ -92,7 +94,7 @@ powered-matches s k x v f =
 
 -- ---- a sonde that matches
 
-module _ {d : Sonde} {address : ℕ} {ys : List Setup} (m : Matches d address ys) where
+module _ {d : Sonde} {address technician : ℕ} {ys : List Setup} (m : Matches d address technician ys) where
   -- it is valid
   pub sonde-valid : validSonde d ≡ true
   sonde-valid = valid-sonde d (m .address-valid) (λ s k. m .each s k .valid-sensor)
@@ -113,17 +115,38 @@ module _ {d : Sonde} {address : ℕ} {ys : List Setup} (m : Matches d address ys
   setup-fits s k = m .each s k .fits
 
   -- the counters don't matter
-  pub counted : (e : Event) → Matches (countedBy e d) address ys
+  pub counted : (e : Event) → Matches (countedBy e d) address technician ys
   unfolding countedBy sensorAt
   counted e =
-      record { address-is = m .address-is; address-valid = m .address-valid; four-sensors = m .four-sensors; four-setups = m .four-setups; each = m .each }
+      record {
+        address-is = m .address-is;
+        technician-is = m .technician-is;
+        address-valid = m .address-valid;
+        four-sensors = m .four-sensors;
+        four-setups = m .four-setups;
+        each = m .each;
+      }
+
+  -- the technician's number stored
+  pub with-technician : (n : ℕ) → Matches (withTechnician d n) address n ys
+  unfolding withTechnician sensorAt
+  with-technician n =
+      record {
+        address-is = m .address-is;
+        technician-is = refl;
+        address-valid = m .address-valid;
+        four-sensors = m .four-sensors;
+        four-setups = m .four-setups;
+        each = m .each;
+      }
 
   -- a sensor and its setup in the book replaced
-  replaced : (s : ℕ) → IsSensor s → (v : Sensor) (y : Setup) → SensorMatches s v y → Matches (withSensor d s v) address (set ys (s - 1) y)
+  replaced : (s : ℕ) → IsSensor s → (v : Sensor) (y : Setup) → SensorMatches s v y → Matches (withSensor d s v) address technician (set ys (s - 1) y)
   unfolding withSensor sensorAt setupOf
   replaced s k v y n =
       record {
         address-is = m .address-is;
+        technician-is = m .technician-is;
         address-valid = m .address-valid;
         four-sensors = simp length-set (m .four-sensors);
         four-setups = simp length-set (m .four-setups);
@@ -141,7 +164,7 @@ module _ {d : Sonde} {address : ℕ} {ys : List Setup} (m : Matches d address ys
       go t false e o = o
 
   -- a valid setup stored
-  pub with-setup : (s : ℕ) → IsSensor s → (y : Setup) → validSetup s y ≡ true → SetupFits y → Matches (withSetup d s y) address (set ys (s - 1) y)
+  pub with-setup : (s : ℕ) → IsSensor s → (y : Setup) → validSetup s y ≡ true → SetupFits y → Matches (withSetup d s y) address technician (set ys (s - 1) y)
   unfolding withSetup sensorWithSetup validSensor
   with-setup s k y v f =
       let t = valid-sensor-parts s (sensorAt d s) (m .each s k .valid-sensor) in
@@ -149,7 +172,7 @@ module _ {d : Sonde} {address : ℕ} {ys : List Setup} (m : Matches d address ys
 
   -- a measurement of finite raws
   pub measured : (s : ℕ) → IsSensor s → (present : Bool) (raw1 raw2 : Float) → rawsFinite s present raw1 raw2 ≡ true
-      → Matches (measuredAt d s present raw1 raw2) address ys
+      → Matches (measuredAt d s present raw1 raw2) address technician ys
   unfolding measuredAt measuredSensor setupAt setupOf
   measured s k present raw1 raw2 f =
       rw (set-getD ys (s - 1) (noSensor .setup)) at
@@ -165,17 +188,17 @@ module _ {d : Sonde} {address : ℕ} {ys : List Setup} (m : Matches d address ys
 
   -- a power-up from a volume whose replay is the calibrations in force
   pub powered-up : (a : ℕ) (w : List ℕ) → addressValid a ≡ true → ((s : ℕ) → IsSensor s → replayOf w s ≡ setupAt d s .active .calibration)
-      → Matches (poweredSonde a (replays w)) a (poweredSetups ys)
+      → Matches (poweredSonde a (replays w)) a 0 (poweredSetups ys)
   unfolding replays poweredSonde poweredSetups setupOf
-  powered-up a w v r = of-four a _ v (one 1 (omega arith)) (one 2 (omega arith)) (one 3 (omega arith)) (one 4 (omega arith))
+  powered-up a w v r = of-four a 0 _ v (one 1 (omega arith)) (one 2 (omega arith)) (one 3 (omega arith)) (one 4 (omega arith))
     where
       one : (s : ℕ) → IsSensor s → SensorMatches s (poweredSensor s (replayOf w s)) (poweredSetup s (getD ys (s - 1) (noSensor .setup) .active .calibration))
       one s k = rw (r s k, ← (setup-same s k)) (powered-matches s k (setupAt d s) (setup-valid s k) (setup-fits s k))
 
 -- a fresh sonde matches fresh setups
-pub fresh-matches : (address : ℕ) → addressValid address ≡ true → Matches (freshSonde address) address freshSetups
+pub fresh-matches : (address : ℕ) → addressValid address ≡ true → Matches (freshSonde address) address 0 freshSetups
 unfolding freshSonde freshSetups freshSensor
-fresh-matches address v = of-four address _ v (one 1 (omega arith)) (one 2 (omega arith)) (one 3 (omega arith)) (one 4 (omega arith))
+fresh-matches address v = of-four address 0 _ v (one 1 (omega arith)) (one 2 (omega arith)) (one 3 (omega arith)) (one 4 (omega arith))
   where
     one : (s : ℕ) → IsSensor s → SensorMatches s (freshSensor s) (freshSetup s)
     one s k = record { setup-is = refl; valid-sensor = fresh-sensor-valid s (k .0) (k .1); fits = fresh-fits s }

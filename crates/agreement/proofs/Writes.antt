@@ -3,9 +3,11 @@
 use mathlib.Core.Path.{_≡_, refl, sym, ap, _∙_}
 use mathlib.Core.Bool.{Bool, true, false, _||_, cond}
 use mathlib.Core.List.{List, [], _++_, append-nil}
-use Prim.Native.Nat.{ℕ, _≤_}
+use Prim.Native.Nat.{ℕ, zero, suc, _≤_}
+use native.Mathlib.Omega.{arith}
 use lib.Dec.{eqb, ltb}
 use lib.ListN.{length}
+use lib.Seq.{set-getD}
 use borrow.Author.Tests.{eqb-true, ltb-true, ltb-false}
 use Rattle.modbus.specs.declared.Header.{Header}
 use Rattle.modbus.specs.declared.Value.{Value}
@@ -17,30 +19,34 @@ use Rattle.entries.specs.declared.Entry.{Entry}
 use Rattle.fields.specs.declared.Field.{Field}
 use Rattle.fields.proofs.Computed.{other}
 use Rattle.journal.specs.Journal.{IsSensor, ofSensor, on, latest}
-use Rattle.journal.specs.Stores.{appendsOf, spareIn}
+use Rattle.journal.specs.Stores.{appendsOf}
 use Rattle.journal.proofs.Holds.{Holds, holds-used, append-holds}
 use Rattle.journal.proofs.Replay.{latest-snoc}
 use Rattle.sensors.specs.Sensors.{freshSample}
 use Rattle.sensors.specs.declared.Setup.{Setup}
 use Rattle.sensors.specs.declared.Sample.{Sample}
 use Rattle.sensors.specs.declared.Sensor.{Sensor}
-use Rattle.registers.specs.Registers.{parameterRegister, sensorRegister}
-use Rattle.commands.specs.Commands.{setupAfter, entriesOf}
+use Rattle.registers.specs.Registers.{parameterRegister, sensorRegister, deviceRegister}
+use Rattle.commands.specs.Commands.{contextOf, setupAfter, entriesOf}
 use Rattle.commands.specs.declared.Context.{Context}
 use Rattle.writes.specs.Writes.{writeOf}
 use Rattle.writes.proofs.Laws.{Journalled, nothing, entry, after-valid, after-fits, journalled}
+use Rattle.writes.proofs.Owners.{sensor-technician}
 use Rattle.writes.proofs.Rows.{settled, written-part}
 use Rattle.writes.proofs.Updates.{entries-told}
 use Rattle.plans.specs.declared.Plan.the-variants.{Writing}
 use Rattle.plans.proofs.Plans.{Located}
-use Rattle.state.specs.Sonde.{sensorAt, setupAt, countedBy}
+use Rattle.state.specs.Sonde.{noSensor, sensorAt, setupAt, withSensor, withSetup, withTechnician, countedBy}
 use Rattle.state.specs.declared.Event.{Event}
-use Rattle.service.specs.Frame.{firstWord, secondWord, Answer, answer, contextOf, writtenBy, writeAt, isUpdate, carriedOut}
+use Rattle.service.specs.Reads.{deviceOf, deviceIn}
+use Rattle.service.specs.Frame.{firstWord, secondWord, Answer, answer, writeAt, isUpdate, sondeAfter, carriedOut}
 use Rattle.service.specs.declared.Arrival.{Arrival}
-use Rattle.agreement.specs.Model.{Model, setupOf, hasRoom, writeIn, extended, kept}
+use Rattle.service.proofs.Owners.{device-write, sensor-write, sensor-update}
+use Rattle.service.proofs.Kept.{with-setup-same}
+use Rattle.agreement.specs.Model.{Model, setupOf, deviceFor, writeIn, extended, kept}
 use Rattle.agreement.specs.Runs.{State, state}
 use Rattle.agreement.specs.Accepted.{acceptedIn}
-use Rattle.agreement.proofs.Sondes.{setup-replaced, setup-same, setup-valid, setup-fits, counted, with-setup}
+use Rattle.agreement.proofs.Sondes.{setup-replaced, setup-same, setup-valid, setup-fits, counted, with-technician, with-setup}
 use Rattle.agreement.proofs.Invariant.{Invariant}
 
 -- ---- the same write
@@ -70,19 +76,32 @@ unmeasured s x y o w =
     part = parameterPart o
 
 module _ {x : State} {b : Model} (h : Invariant x b) where
-  -- an entry is spare in the volume where it is in the book
-  spare-same : spareIn (x .volume) ≡ hasRoom (b .journal)
-  unfolding spareIn hasRoom
-  spare-same = rw (holds-used (x .volume) (b .journal) (h .holds), h .holds .capacity-is)
+  -- what an update takes from the device is the same, whose counters aside the book has all values
+  context-same : (a : Arrival) → contextOf (deviceFor b a) ≡ contextOf (deviceIn (x .sonde) (x .volume) a)
+  unfolding deviceOf
+  context-same a = rw (holds-used (x .volume) (b .journal) (h .holds), h .holds .capacity-is, h .matches .technician-is)
 
-  -- the write of a field
-  write-same : (a : Arrival) (s : ℕ) (f : Field) (v : Value) → Located (f .words) s f → writeIn b a s f v ≡ writeAt (x .sonde) (x .volume) a s f v
-  unfolding writeIn writtenBy
-  write-same a s f v l =
+  -- the write of the technician's number
+  device-same : (a : Arrival) (f : Field) (v : Value) → Located (f .words) 0 f → writeIn b a 0 f v ≡ writeAt (x .sonde) (x .volume) a 0 f v
+  unfolding writeIn deviceRegister deviceOf
+  device-same a f v l =
       rw (
+        device-write (deviceFor b a) (record { setup = setupOf (b .setups) 0; sample = freshSample }) f v,
+        device-write (deviceIn (x .sonde) (x .volume) a) (sensorAt (x .sonde) 0) f v,
+        l .device refl,
+        h .matches .technician-is,
+      )
+
+  -- the write of a sensor's field
+  sensor-same : (a : Arrival) (s : ℕ) (k : IsSensor s) (f : Field) (v : Value) → Located (f .words) s f → writeIn b a s f v ≡ writeAt (x .sonde) (x .volume) a s f v
+  unfolding writeIn
+  sensor-same a s k f v l =
+      rw (
+        sensor-write (deviceFor b a) (record { setup = setupOf (b .setups) s; sample = freshSample }) f v s (k .0),
+        sensor-write (deviceIn (x .sonde) (x .volume) a) (sensorAt (x .sonde) s) f v s (k .0),
         unmeasured s (sensorAt (x .sonde) s) freshSample (f .offset) (written-part (l .register) f (l .field) (l .writable)),
-        h .matches .each s (l .is-sensor) .setup-is,
-        spare-same,
+        h .matches .each s k .setup-is,
+        context-same a,
       )
 
 -- ---- what comes of it
@@ -112,8 +131,8 @@ module _ {x : State} {b : Model} (h : Invariant x b) where
       followed : (t : ℕ) → IsSensor t → latest t (ofSensor (b .journal .opening) t) (b .journal .entries ++ es) ≡ inForce y t
 
     -- so it is with what a write journals: nothing, or one entry
-    recorded : (a : Arrival) {y : Setup} {code : ℕ} {es : List Entry} → Journalled s old y (contextOf (x .volume) a) code es → Recorded y es
-    unfolding hasRoom on
+    recorded : (a : Arrival) {y : Setup} {code : ℕ} {es : List Entry} → Journalled s old y (contextOf (deviceIn (x .sonde) (x .volume) a)) code es → Recorded y es
+    unfolding on
     recorded a {y} (nothing e) = record { holds = rw append-nil (h .holds); followed = λ t l. rw append-nil (h .followed t l ∙ go t (eqb t s) refl) }
       where
         go : (t : ℕ) (p : Bool) → eqb t s ≡ p → setupOf (b .setups) t .active .calibration ≡ (cond p y (setupOf (b .setups) t)) .active .calibration
@@ -123,7 +142,7 @@ module _ {x : State} {b : Model} (h : Invariant x b) where
         record {
           holds =
               append-holds (x .volume) (b .journal) e (h .holds) (v (setup-valid (h .matches) s k)) (f (setup-fits (h .matches) s k))
-              (ltb-true (length (b .journal .entries)) (b .journal .capacity) (sym (spare-same h) ∙ r));
+              (ltb-true (length (b .journal .entries)) (b .journal .capacity) (ap (λ (c : Context). c .spare) (context-same h a) ∙ r));
           followed = λ t l. latest-snoc t (ofSensor (b .journal .opening) t) (b .journal .entries) e ∙ rw (ap (eqb t) n) (go t l (eqb t s) refl);
         }
       where
@@ -135,13 +154,28 @@ module _ {x : State} {b : Model} (h : Invariant x b) where
         go t l true q = ap (λ (c : Calibration). replacedBy c e) (h .followed t l ∙ rw (eqb-true t s q, ← (setup-same (h .matches) s k))) ∙ u
         go t l false q = h .followed t l
 
-  -- the write of a field, whatever comes of it
-  pub write-keeps : (a : Arrival) (hd : Header) (body : List ℕ) (s : ℕ) (f : Field) (v : Value) → Located (f .words) s f
+  -- the write of the technician's number
+  device-keeps : (a : Arrival) (hd : Header) (body : List ℕ) (f : Field) (v : Value) → Located (f .words) 0 f
+      → Answered b (carriedOut (x .sonde) hd body (x .volume) 0 (writeAt (x .sonde) (x .volume) a 0 f v)) (kept b 0 (writeIn b a 0 f v)) []
+  unfolding carriedOut sondeAfter setupOf
+  device-keeps a hd body f v l =
+      rw (device-same h a f v l, device-write (deviceIn (x .sonde) (x .volume) a) (sensorAt (x .sonde) 0) f v, with-setup-same (x .sonde) 0, set-getD (b .setups) 0 (noSensor .setup))
+      (record {
+        invariant = record {
+          matches = counted (with-technician (h .matches) _) _;
+          holds = rw append-nil (h .holds);
+          followed = λ t j. rw append-nil (h .followed t j);
+        };
+        entries = refl;
+      })
+
+  -- the write of a sensor's field, whatever comes of it
+  sensor-keeps : (a : Arrival) (hd : Header) (body : List ℕ) (s : ℕ) (k : IsSensor s) (f : Field) (v : Value) → Located (f .words) s f
       → Answered b (carriedOut (x .sonde) hd body (x .volume) s (writeAt (x .sonde) (x .volume) a s f v)) (kept b s (writeIn b a s f v))
-      (acceptedIn (x .sonde) (contextOf (x .volume) a) (Writing s f v))
-  unfolding carriedOut writtenBy isUpdate setupAt
-  write-keeps a hd body s f v l =
-      rw (write-same h a s f v l, ← (setup-same (h .matches) s k))
+      (acceptedIn (x .sonde) (contextOf (deviceIn (x .sonde) (x .volume) a)) (Writing s f v))
+  unfolding carriedOut sondeAfter setupAt withTechnician withSetup withSensor
+  sensor-keeps a hd body s k f v l =
+      rw (sensor-same h a s k f v l, sensor-write (deviceIn (x .sonde) (x .volume) a) (sensorAt (x .sonde) s) f v s (k .0), sensor-update (sensorAt (x .sonde) s) f v s (k .0), ← (setup-same (h .matches) s k), sensor-technician y f high low c s (x .sonde .technician), sensor-technician y f high low c s (b .technician))
       (record {
         invariant = record {
           matches = counted (with-setup (h .matches) s k _ (after-valid s y f high low c (setup-valid (h .matches) s k)) (after-fits s y f high low c (setup-fits (h .matches) s k))) _;
@@ -151,9 +185,6 @@ module _ {x : State} {b : Model} (h : Invariant x b) where
         entries = ap (λ (es : List Entry). b .journal .entries ++ es) (entries-told s y f high low c);
       })
     where
-      k : IsSensor s
-      k = l .is-sensor
-
       y : Setup
       y = setupAt (x .sonde) s
 
@@ -164,7 +195,15 @@ module _ {x : State} {b : Model} (h : Invariant x b) where
       low = secondWord v
 
       c : Context
-      c = contextOf (x .volume) a
+      c = contextOf (deviceIn (x .sonde) (x .volume) a)
 
       r : Recorded s k (setupAfter y (writeOf s y f high low c)) (entriesOf (writeOf s y f high low c))
       r = recorded s k a (journalled s y f high low c)
+
+  -- the write of a field
+  pub write-keeps : (a : Arrival) (hd : Header) (body : List ℕ) (o : ℕ) (f : Field) (v : Value) → Located (f .words) o f
+      → Answered b (carriedOut (x .sonde) hd body (x .volume) o (writeAt (x .sonde) (x .volume) a o f v)) (kept b o (writeIn b a o f v))
+      (acceptedIn (x .sonde) (contextOf (deviceIn (x .sonde) (x .volume) a)) (Writing o f v))
+  unfolding isUpdate
+  write-keeps a hd body zero f v l = device-keeps a hd body f v l
+  write-keeps a hd body (suc n) f v l = sensor-keeps a hd body (suc n) (omega arith, l .owner-most) f v l

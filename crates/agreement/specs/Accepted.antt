@@ -29,11 +29,12 @@ acceptedIn d c Foreign = []
 acceptedIn d c BroadcastRead = []
 acceptedIn d c (Refused code) = []
 acceptedIn d c (Reading start count) = []
-acceptedIn d c (Writing s f v) = cond (isUpdate s (sensorAt d s) f v) (acceptedUpdate s (setupAt d s) c) []
+acceptedIn d c (Writing o f v) = cond (isUpdate o (sensorAt d o) f v) (acceptedUpdate o (setupAt d o) c) []
 
--- what an update takes from outside the setup: an entry is spare where fewer were accepted than the volume's length has room for
+-- what an update takes from outside the setup: an entry is spare where fewer were accepted than the volume's length has room for. Document 02, wish
+-- 3: "every entry carries the number that stood when it was accepted", the technician's in the sonde before the call
 abbrev pub contextAfter : List Entry → State → Arrival → Context
-contextAfter es x a = context (a .clock) (ltb (length es) (capacityOf (length (x .volume))))
+contextAfter es x a = context (a .clock) (ltb (length es) (capacityOf (length (x .volume)))) (x .sonde .technician)
 
 -- the accepted calibrations since the last begin, one call later. Number 3 refuses a frame by its reply buffer's length; number 4 isn't asked
 -- for, since no call gives it. Document 02, wish 1: "An ASCII update is an accepted calibration like any other". A begin that isn't refused starts

@@ -45,6 +45,7 @@ pub record Agree (x : State) (b : Model) : Type 0 where
   pub limits : (s : ℕ) → IsSensor s → inLimits s (coefficientsOf (setupAt (x .sonde) s .active .calibration)) ≡ true
   -- the sonde's address and every value that frames write are the book's
   pub address : x .sonde .address ≡ b .address
+  pub technician : x .sonde .technician ≡ b .technician
   pub setups : (s : ℕ) → IsSensor s → setupAt (x .sonde) s ≡ setupOf (b .setups) s
   -- audit gives 0 and the number of entries
   pub audited : auditOf (x .sonde) (x .volume) ≡ record { number = 0; entries = length (b .journal .entries) }

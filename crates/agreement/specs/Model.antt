@@ -1,6 +1,6 @@
 -- The control book: document 01's third book, which is fed the calls' arguments and neither the sonde nor any volume's words. Document 01,
 -- "Control book". Assumes nothing.
-use mathlib.Core.Bool.{Bool, cond}
+use mathlib.Core.Bool.{cond}
 use mathlib.Core.List.{List, [], _∷_, _++_}
 use Prim.Native.Nat.{ℕ, _-_}
 use lib.Dec.{ltb}
@@ -14,7 +14,8 @@ use Rattle.journal.specs.Journal.{Journal, bySensor}
 use Rattle.journal.specs.Stores.{newJournal}
 use Rattle.sensors.specs.Sensors.{freshSetup, poweredSetup, freshSample}
 use Rattle.sensors.specs.declared.Setup.{Setup}
-use Rattle.commands.specs.Commands.{context, setupAfter, entriesOf}
+use Rattle.registers.specs.declared.Device.{Device}
+use Rattle.commands.specs.Commands.{setupAfter, technicianAfter, entriesOf}
 use Rattle.commands.specs.declared.Written.{Written}
 use Rattle.plans.specs.declared.Plan.{Plan}
 use Rattle.plans.specs.declared.Plan.the-variants.{Bad, Foreign, BroadcastRead, Refused, Reading, Writing}
@@ -23,14 +24,16 @@ use Rattle.service.specs.Frame.{planFor, writtenBy}
 use Rattle.service.specs.declared.Arrival.{Arrival}
 
 -- "It keeps the address; every value that frames write, trial figures, method and points among them; each sensor's mode, figures in force and
--- last calibration; capacity; opening; a list of entries": four setups, and the journal as a record of facts
+-- last calibration; capacity; opening; a list of entries": four setups, and the journal as a record of facts. Document 02, wish 3: the technician's
+-- number is such a value
 pub record Model : Type 0 where
   pub address : ℕ
+  pub technician : ℕ
   pub setups : List Setup
   pub journal : Journal
 
-abbrev pub model : ℕ → List Setup → Journal → Model
-model address setups j = record { address = address; setups = setups; journal = j }
+abbrev pub model : ℕ → ℕ → List Setup → Journal → Model
+model address technician setups j = record { address = address; technician = technician; setups = setups; journal = j }
 
 -- the setup of sensor 1, 2, 3 or 4
 unfoldable pub setupOf : List Setup → ℕ → Setup
@@ -45,19 +48,19 @@ actives xs = bySensor (λ s. setupOf xs s .active .calibration)
 -- "Begin: opening := figures in force and last calibrations; capacity by the length; no entries". Number 2 refuses; "A refused call ..:
 -- nothing"
 unfoldable pub modelBegin : Model → ℕ → Model
-modelBegin b words = cond (ltb words 88) b (model (b .address) (b .setups) (newJournal (actives (b .setups)) words))
+modelBegin b words = cond (ltb words 88) b (model (b .address) (b .technician) (b .setups) (newJournal (actives (b .setups)) words))
 
 unfoldable pub freshSetups : List Setup
 freshSetups = freshSetup 1 ∷ freshSetup 2 ∷ freshSetup 3 ∷ freshSetup 4 ∷ []
 
 -- "It starts as fresh, then takes the first begin"
 unfoldable pub modelStart : ℕ → ℕ → Model
-modelStart address words = model address freshSetups (newJournal (actives freshSetups) words)
+modelStart address words = model address 0 freshSetups (newJournal (actives freshSetups) words)
 
 -- ---- power-up
 
 -- "Power-up: the new address; figures in force, last calibrations, opening, capacity and entries stay; modes off, trial := in force, all else
--- as fresh". Number 1 refuses.
+-- as fresh". Number 1 refuses. Document 02, wish 3: "A power-up sets the register to 0"
 unfoldable pub poweredSetups : List Setup → List Setup
 poweredSetups xs =
     poweredSetup 1 (setupOf xs 1 .active .calibration)
@@ -67,18 +70,27 @@ poweredSetups xs =
     ∷ []
 
 unfoldable pub modelPowerUp : Model → ℕ → Model
-modelPowerUp b address = cond (addressValid address) (model address (poweredSetups (b .setups)) (b .journal)) b
+modelPowerUp b address = cond (addressValid address) (model address 0 (poweredSetups (b .setups)) (b .journal)) b
 
 -- ---- frame
 
--- whether an entry is spare, by the book's own count
-unfoldable pub hasRoom : Journal → Bool
-hasRoom j = ltb (length (j .entries)) (j .capacity)
+-- the device's values in the book, its entries counted by its own list. The book counts no message: a field that a mask can write shows no counter
+abbrev pub deviceFor : Model → Arrival → Device
+deviceFor b a =
+    record {
+      clock = a .clock;
+      good = 0;
+      bad = 0;
+      exceptions = 0;
+      capacity = b .journal .capacity;
+      used = length (b .journal .entries);
+      technician = b .technician;
+    }
 
--- the field's write, "judged by this paper's rules on the book's own values". Old, for a mask, is what a sensor that was never measured
--- shows: a field that a mask can write shows a setup's word and no measurement
+-- the field's write, "judged by this paper's rules on the book's own values". Old, for a mask, is what the book's device shows, or a sensor that was
+-- never measured: a field that a mask can write shows the technician's number or a setup's word, and no measurement
 unfoldable pub writeIn : Model → Arrival → ℕ → Field → Value → Written
-writeIn b a s f v = writtenBy s (record { setup = setupOf (b .setups) s; sample = freshSample }) f v (context (a .clock) (hasRoom (b .journal)))
+writeIn b a o f v = writtenBy o (deviceFor b a) (record { setup = setupOf (b .setups) o; sample = freshSample }) f v
 
 -- a journal with entries more, "at the end of the list"
 abbrev pub extended : Journal → List Entry → Journal
@@ -86,9 +98,12 @@ extended j es = record { capacity = j .capacity; opening = j .opening; entries =
 
 -- "A write that meets no refusal is carried out on these, and an update adds its entry at the end of the list". One that is refused adds none and
 -- leaves its sensor's setup; document 02, wish 2: the book follows "this one exception", so that an update refused for its limits alone puts the
--- candidate in the book's trial figures (`setupAfter`)
+-- candidate in the book's trial figures (`setupAfter`). Document 02, wish 3: a write to register 9 gives the book its number (`technicianAfter`)
 abbrev pub kept : Model → ℕ → Written → Model
-kept b s x = model (b .address) (set (b .setups) (s - 1) (setupAfter (setupOf (b .setups) s) x)) (extended (b .journal) (entriesOf x))
+kept b o x =
+    model (b .address) (technicianAfter (b .technician) x)
+    (set (b .setups) (o - 1) (setupAfter (setupOf (b .setups) o) x))
+    (extended (b .journal) (entriesOf x))
 
 -- "a frame that is bad, another's or a read: nothing"; what a plan refuses is no update
 abbrev pub modelPlanned : Model → Arrival → Plan → Model
@@ -97,7 +112,7 @@ modelPlanned b a Foreign = b
 modelPlanned b a BroadcastRead = b
 modelPlanned b a (Refused code) = b
 modelPlanned b a (Reading start count) = b
-modelPlanned b a (Writing s f v) = kept b s (writeIn b a s f v)
+modelPlanned b a (Writing o f v) = kept b o (writeIn b a o f v)
 
 -- of the reply buffer the length alone: number 3 refuses, by the framing. "Number 4 isn't tried". Frames of either framing are judged alike
 unfoldable pub modelFrame : Model → List ℕ → ℕ → Arrival → Model

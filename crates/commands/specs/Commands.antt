@@ -3,7 +3,7 @@
 use mathlib.Core.Bool.{Bool, true, false, cond}
 use mathlib.Core.List.{List, [], _∷_}
 use Prim.Native.Nat.{ℕ}
-use lib.Dec.{eqb}
+use lib.Dec.{eqb, ltb}
 use Rattle.methods.specs.Methods.{methodOf, judgedOf, codeOf as verdictCode}
 use Rattle.methods.specs.declared.Method.{Method}
 use Rattle.methods.specs.declared.Verdict.{Verdict}
@@ -12,12 +12,18 @@ use Rattle.entries.specs.Entries.{entryOf}
 use Rattle.entries.specs.declared.Entry.{Entry}
 use Rattle.sensors.specs.Changes.{withTrial, restarted, calibratedAt}
 use Rattle.sensors.specs.declared.Setup.{Setup}
+use Rattle.registers.specs.declared.Device.{Device}
 use Rattle.commands.specs.declared.Context.{Context}
 use Rattle.commands.specs.declared.Written.{Written}
-use Rattle.commands.specs.declared.Written.the-variants.{Refused, Failed, Stored, Updated}
+use Rattle.commands.specs.declared.Written.the-variants.{Refused, Failed, Stored, Updated, Technician}
 
-abbrev pub context : ℕ → Bool → Context
-context clock spare = record { clock = clock; spare = spare }
+abbrev pub context : ℕ → Bool → ℕ → Context
+context clock spare technician = record { clock = clock; spare = spare; technician = technician }
+
+-- what an update takes from outside the setup, by the device's values: the clock, whether an entry is spare, since "in use = capacity" is 0xC0, and
+-- the technician's number
+abbrev pub contextOf : Device → Context
+contextOf e = context (e .clock) (ltb (e .used) (e .capacity)) (e .technician)
 
 -- ---- an answer
 
@@ -27,6 +33,7 @@ codeOf (Refused code) = code
 codeOf (Failed t) = 0x97
 codeOf (Stored s) = 0
 codeOf (Updated s e) = 0
+codeOf (Technician n) = 0
 
 -- the setup that an answer leaves, s being the one before; demand 1: "a code changes only the message counters", with the one exception of
 -- document 02, wish 2: "an update that is refused for its limits alone puts the candidate in the trial figures"
@@ -35,6 +42,15 @@ setupAfter s (Refused code) = s
 setupAfter s (Failed t) = t
 setupAfter s (Stored t) = t
 setupAfter s (Updated t e) = t
+setupAfter s (Technician n) = s
+
+-- the technician's number that it leaves, n being the one before
+abbrev pub technicianAfter : ℕ → Written → ℕ
+technicianAfter n (Refused code) = n
+technicianAfter n (Failed t) = n
+technicianAfter n (Stored t) = n
+technicianAfter n (Updated t e) = n
+technicianAfter n (Technician m) = m
 
 -- the entries that it appends
 abbrev pub entriesOf : Written → List Entry
@@ -42,6 +58,7 @@ entriesOf (Refused code) = []
 entriesOf (Failed t) = []
 entriesOf (Stored t) = []
 entriesOf (Updated t e) = e ∷ []
+entriesOf (Technician n) = []
 
 -- ---- a command
 
@@ -53,7 +70,7 @@ methodSet s = methodOf (s .procedure .method) (s .procedure .trial) (s .procedur
 -- 02, wish 2: one refused for its limits alone is kept, "Equal points and results that aren't finite still change nothing"
 abbrev pub judgedUpdate : ℕ → Setup → Context → Verdict → Written
 judgedUpdate sensor s context (Accepted c) =
-    cond (context .spare) (Updated (calibratedAt s c (context .clock)) (entryOf sensor (methodSet s) c (context .clock))) (Refused 0xC0)
+    cond (context .spare) (Updated (calibratedAt s c (context .clock)) (entryOf sensor (methodSet s) c (context .clock) (context .technician))) (Refused 0xC0)
 judgedUpdate sensor s context (OutsideLimits c) = Failed (withTrial s c)
 judgedUpdate sensor s context NotFinite = Refused (verdictCode NotFinite)
 judgedUpdate sensor s context Undefined = Refused (verdictCode Undefined)
@@ -88,9 +105,10 @@ refusedUpdate sensor s = cond (s .procedure .calibrating) (triedBy s (judgedOf s
 -- ---- an accepted calibration
 
 -- document 01: "An accepted calibration is a frame .. that writes 0xE001 to a command register and meets no refusal below": the entry of such an
--- update, none where mode is off (0x92), the candidate isn't accepted (0x97) or the journal is full (0xC0)
+-- update, none where mode is off (0x92), the candidate isn't accepted (0x97) or the journal is full (0xC0). Document 02, wish 3: it "carries the
+-- number that stood when it was accepted"
 abbrev pub acceptedBy : ℕ → Setup → Context → Verdict → List Entry
-acceptedBy sensor s context (Accepted c) = cond (context .spare) (entryOf sensor (methodSet s) c (context .clock) ∷ []) []
+acceptedBy sensor s context (Accepted c) = cond (context .spare) (entryOf sensor (methodSet s) c (context .clock) (context .technician) ∷ []) []
 acceptedBy sensor s context (OutsideLimits c) = []
 acceptedBy sensor s context NotFinite = []
 acceptedBy sensor s context Undefined = []

@@ -1,19 +1,32 @@
-// The commands of a calibration, and what a write answers: refused by a code, the setup that a failed update leaves, the new setup, or for an
-// accepted update the new setup and the entry to append.
+// The commands of a calibration, and what a write answers: refused by a code, the setup that a failed update leaves, the new setup, for an accepted
+// update the new setup and the entry to append, or the device's new technician number.
 ghost use mathlib.Core.Path.{_≡_};
-ghost use Rattle.commands.specs.Commands.{updated, commanded, codeOf, setupAfter};
+ghost use Rattle.commands.specs.Commands.{contextOf, updated, commanded, codeOf, setupAfter};
 use entries::Entry;
 use entries::entry_of;
 use methods::Verdict;
 use methods::judge;
 use methods::method_of;
 use refusals::codes;
+use registers::Device;
 use sensors::Setup;
 
-// What an update takes from outside the sensor's setup: the time, and whether the journal has room for an entry.
+// What an update takes from outside the sensor's setup: the time, whether the journal has room for an entry, and the technician's number.
 pub struct Context {
     pub clock: u32,
     pub spare: bool,
+    pub technician: u16,
+}
+
+// The device's values have all of it.
+pub fn context_of(device: Device) -> Context
+    ensures { λ r. ⌜ r ≡ contextOf device ⌝ }
+{
+    Context {
+        clock: device.clock,
+        spare: device.used < device.capacity,
+        technician: device.technician,
+    }
 }
 
 pub enum Written {
@@ -22,6 +35,8 @@ pub enum Written {
     Failed(Setup),
     Stored(Setup),
     Updated(Setup, Entry),
+    // The device's technician number; no sensor's setup changes.
+    Technician(u16),
 }
 
 // 0, or the code that refuses the write.
@@ -33,6 +48,7 @@ pub fn code_of(w: Written) -> u8
         Written::Failed(_) => codes::INVALID_CALIBRATION,
         Written::Stored(_) => 0,
         Written::Updated(_, _) => 0,
+        Written::Technician(_) => 0,
     }
 }
 
@@ -45,6 +61,7 @@ pub fn setup_after(w: Written, s: Setup) -> Setup
         Written::Failed(t) => t,
         Written::Stored(t) => t,
         Written::Updated(t, _) => t,
+        Written::Technician(_) => s,
     }
 }
 
@@ -67,7 +84,7 @@ fn update(sensor: u16, s: Setup, context: Context) -> Written
             }
             Written::Updated(
                 s.calibrate(c, context.clock),
-                entry_of(sensor, m, c, context.clock),
+                entry_of(sensor, m, c, context.clock, context.technician),
             )
         }
         Verdict::OutsideLimits(c) => Written::Failed(s.with_trial(c)),

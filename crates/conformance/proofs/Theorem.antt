@@ -16,23 +16,24 @@ use Rattle.methods.specs.Methods.{methodOf, candidateOf, verdictOf, judgedOf}
 use Rattle.entries.specs.Entries.{validCalibration, methodAllowed, pointsFinite, samePoints, validEntry, replacedBy}
 use Rattle.journal.specs.Words.{capacityOf, entryWords, numberAt, floatAt, entryAt}
 use Rattle.journal.specs.Layout.{header}
-use Rattle.journal.specs.Stores.{beginWords, storesOf, appendOf, spareIn}
+use Rattle.journal.specs.Stores.{beginWords, storesOf, appendOf}
 use Rattle.journal.specs.Valid.{validHeader, openingAt, validOpenings, validEntryAt, chainOf, validLink, validChain, validChains, validEntries, valid}
 use Rattle.journal.specs.Replay.{replayOf, replays}
 use Rattle.parameters.specs.Parameters.{idOf, defaultUnits, unitsAllowed, levelAllowed}
 use Rattle.fields.specs.Fields.{ownerBit, owns, holds, exactly, fieldAt, wholeField, spanOf}
 use Rattle.sensors.specs.Sensors.{freshParameter, freshParameters, freshSetup, freshSensor, unitsValid, levelValid, validParameter, validParameters, validProcedure, validSetup, validSensor}
 use Rattle.sensors.specs.Changes.{newProcedure, restarted, calibratedAt, sensorWithSetup}
-use Rattle.registers.specs.Registers.{modeOf, shownCoefficients, coefficientRegister, headRegister, sensorRegister, registerOf}
+use Rattle.registers.specs.Registers.{modeOf, shownCoefficients, coefficientRegister, headRegister, sensorRegister, deviceRegister, registerOf}
 use Rattle.commands.specs.Commands.{updated, commanded}
-use Rattle.writes.specs.Writes.{methodWritten, pointAt, withFloat, floatWritten, fieldWritten, writeOf}
+use Rattle.writes.specs.Writes.{methodWritten, pointAt, withFloat, floatWritten, fieldWritten, writeOf, deviceWritten, writeTo}
 use Rattle.plans.specs.Plans.{targetOf, readPlan, planOf}
-use Rattle.state.specs.Sonde.{freshCounters, incremented, freshSonde, sensorAt, setupAt, withSensor, withSetup, countedBy, addressValid, validSonde}
+use Rattle.audit.specs.Audit.{replayed}
+use Rattle.state.specs.Sonde.{freshCounters, incremented, freshSonde, poweredSonde, sensorAt, setupAt, withSensor, withSetup, withTechnician, countedBy, addressValid, validSonde}
 use Rattle.service.specs.Agrees.{openings, sameCalibrations, journalAgrees, agrees}
-use Rattle.service.specs.Calls.{beginOf}
+use Rattle.service.specs.Calls.{beginOf, powerUpOf}
 use Rattle.service.specs.Reads.{deviceOf, registerAt, readingBody}
-use Rattle.service.specs.Frame.{sent, writeBody, writtenBy, carriedOut, answerOf, left, frameOf}
-use Rattle.conformance.specs.Cases.{Cases, worked, told, begunWith, beginTold, asked, next, nextAscii, frameTold, inMode, tenAtEight, failed}
+use Rattle.service.specs.Frame.{sent, writeBody, writtenBy, sondeAfter, carriedOut, answerOf, left, frameOf}
+use Rattle.conformance.specs.Cases.{Cases, worked, told, begunWith, beginTold, asked, next, nextAscii, frameTold, inMode, tenAtEight, failed, calibrated}
 
 pub cases : Cases
 unfolding crcBit crcBits crcByte crcFrom crcOf checksumOf framed bodyOf isGood overlay
@@ -40,15 +41,15 @@ unfolding crcBit crcBits crcByte crcFrom crcOf checksumOf framed bodyOf isGood o
     bytesOf readOf writeOneOf writeManyOf writeMaskOf requestOf maskedOf readBody writtenBody markedOf exceptionBody
     ofBits toBits sub mul div le near nearMinus finite floatOf highWord lowWord sameBits isPlusZero
     allFinite sameCoefficients sameCalibration defaultsOf inLimits methodOf candidateOf verdictOf judgedOf
-    methodAllowed pointsFinite samePoints validEntry replacedBy capacityOf entryWords numberAt floatAt entryAt validCalibration header beginWords storesOf appendOf spareIn
+    methodAllowed pointsFinite samePoints validEntry replacedBy capacityOf entryWords numberAt floatAt entryAt validCalibration header beginWords storesOf appendOf
     validHeader openingAt validOpenings validEntryAt chainOf validLink validChain validChains validEntries valid replayOf replays
     idOf defaultUnits unitsAllowed levelAllowed ownerBit owns holds exactly fieldAt wholeField spanOf
     newProcedure freshParameter freshParameters freshSetup freshSensor unitsValid levelValid validParameter validParameters validProcedure validSetup validSensor restarted calibratedAt sensorWithSetup
-    modeOf shownCoefficients coefficientRegister headRegister sensorRegister registerOf updated commanded
-    methodWritten pointAt withFloat floatWritten fieldWritten writeOf targetOf readPlan planOf
-    freshCounters incremented freshSonde sensorAt setupAt withSensor withSetup countedBy addressValid validSonde
-    openings sameCalibrations journalAgrees agrees beginOf deviceOf registerAt readingBody sent writeBody writtenBy carriedOut answerOf replyOf left frameOf
-    worked told begunWith beginTold asked next nextAscii frameTold inMode tenAtEight failed
+    modeOf shownCoefficients coefficientRegister headRegister sensorRegister deviceRegister registerOf updated commanded
+    methodWritten pointAt withFloat floatWritten fieldWritten writeOf deviceWritten writeTo targetOf readPlan planOf
+    freshCounters incremented freshSonde poweredSonde replayed sensorAt setupAt withSensor withSetup withTechnician countedBy addressValid validSonde
+    openings sameCalibrations journalAgrees agrees beginOf powerUpOf deviceOf registerAt readingBody sent writeBody writtenBy sondeAfter carriedOut answerOf replyOf left frameOf
+    worked told begunWith beginTold asked next nextAscii frameTold inMode tenAtEight failed calibrated
 cases =
     record {
       crc-of-digits = refl;
@@ -76,4 +77,13 @@ cases =
       slope-corrected = refl;
       equal-failed = refl;
       equal-kept = refl;
+      technician-written = refl;
+      technician-masked = refl;
+      technician-for-all = refl;
+      technician-mismatch = refl;
+      technician-gap = refl;
+      technician-journalled = refl;
+      technician-not-given = refl;
+      technician-cleared = refl;
+      technician-kept = refl;
     }

@@ -18,7 +18,7 @@ use Rattle.methods.specs.declared.Verdict.{Verdict}
 use Rattle.methods.specs.declared.Verdict.the-variants.{Accepted, OutsideLimits, NotFinite, Undefined}
 use Rattle.state.specs.Sonde.{freshSonde, setupAt}
 use Rattle.state.specs.declared.Sonde.{Sonde}
-use Rattle.service.specs.Calls.{Begun, beginOf}
+use Rattle.service.specs.Calls.{Begun, beginOf, powerUpOf}
 use Rattle.service.specs.Frame.{Outcome, arrival, frameOf}
 
 -- the bits of coefficients
@@ -125,6 +125,36 @@ failed = next tenAtEight oxygenUpdate
 unfoldable pub inMode : Outcome
 inMode = asked (freshSonde 1) (begunWith 88 .volume) modeOn
 
+-- to register 9, the technician's number: 3; 7; 7 at address 0; 0x1234, and a mask over it with A 0xFF00 and B 0x56; the read of it
+abbrev pub technicianThree : List ℕ
+technicianThree = 0x01 ∷ 0x06 ∷ 0x00 ∷ 0x09 ∷ 0x00 ∷ 0x03 ∷ 0x19 ∷ 0xC9 ∷ []
+
+abbrev pub technicianSeven : List ℕ
+technicianSeven = 0x01 ∷ 0x06 ∷ 0x00 ∷ 0x09 ∷ 0x00 ∷ 0x07 ∷ 0x18 ∷ 0x0A ∷ []
+
+abbrev pub technicianForAll : List ℕ
+technicianForAll = 0x00 ∷ 0x06 ∷ 0x00 ∷ 0x09 ∷ 0x00 ∷ 0x07 ∷ 0x19 ∷ 0xDB ∷ []
+
+abbrev pub technicianLong : List ℕ
+technicianLong = 0x01 ∷ 0x06 ∷ 0x00 ∷ 0x09 ∷ 0x12 ∷ 0x34 ∷ 0x54 ∷ 0xBF ∷ []
+
+abbrev pub technicianMasked : List ℕ
+technicianMasked = 0x01 ∷ 0x16 ∷ 0x00 ∷ 0x09 ∷ 0xFF ∷ 0x00 ∷ 0x00 ∷ 0x56 ∷ 0x9A ∷ 0x2D ∷ []
+
+abbrev pub technicianRead : List ℕ
+technicianRead = 0x01 ∷ 0x03 ∷ 0x00 ∷ 0x09 ∷ 0x00 ∷ 0x01 ∷ 0x54 ∷ 0x08 ∷ []
+
+-- two words, 0 and 7, from register 8 on, and from register 9 on
+abbrev pub wordsFromEight : List ℕ
+wordsFromEight = 0x01 ∷ 0x10 ∷ 0x00 ∷ 0x08 ∷ 0x00 ∷ 0x02 ∷ 0x04 ∷ 0x00 ∷ 0x00 ∷ 0x00 ∷ 0x07 ∷ 0xB3 ∷ 0xCB ∷ []
+
+abbrev pub wordsFromNine : List ℕ
+wordsFromNine = 0x01 ∷ 0x10 ∷ 0x00 ∷ 0x09 ∷ 0x00 ∷ 0x02 ∷ 0x04 ∷ 0x00 ∷ 0x00 ∷ 0x00 ∷ 0x07 ∷ 0x72 ∷ 0x07 ∷ []
+
+-- technician 3 puts sensor 1 in mode, and technician 7 updates it
+unfoldable pub calibrated : Outcome
+calibrated = next (next (next (asked (freshSonde 1) (begunWith 88 .volume) technicianThree) modeOn) technicianSeven) update
+
 pub record Cases : Type 0 where
   -- "CRC of "123456789" is 0x4B37"
   pub crc-of-digits : crcOf (0x31 ∷ 0x32 ∷ 0x33 ∷ 0x34 ∷ 0x35 ∷ 0x36 ∷ 0x37 ∷ 0x38 ∷ 0x39 ∷ []) ≡ 0x4B37
@@ -167,3 +197,17 @@ pub record Cases : Type 0 where
   pub slope-corrected : frameTold (next (next failed nineY1) oxygenUpdate) ≡ 0 ∷ 1 ∷ oxygenUpdate
   pub equal-failed : frameTold (next (next failed eightX2) oxygenUpdate) ≡ 0 ∷ 0 ∷ outsideLimits
   pub equal-kept : bits (setupAt (next (next tenAtEight eightX2) oxygenUpdate .sonde) 2 .procedure .trial) ≡ 0 ∷ 0x3F800000 ∷ 0 ∷ []
+  -- document 02, wish 3: "Device register 9 becomes writable, a number 0..65535": it is read back, a mask goes over what a read shows, and it is
+  -- written at address 0
+  pub technician-written : frameTold (asked (freshSonde 1) (begunWith 88 .volume) technicianSeven) ≡ 0 ∷ 0 ∷ technicianSeven
+  pub technician-masked : frameTold (next (next (next inMode technicianLong) technicianMasked) technicianRead) ≡ 0 ∷ 0 ∷ 0x01 ∷ 0x03 ∷ 0x02 ∷ 0x12 ∷ 0x56 ∷ 0x34 ∷ 0xDA ∷ []
+  pub technician-for-all : frameTold (next (next inMode technicianForAll) technicianRead) ≡ 0 ∷ 0 ∷ 0x01 ∷ 0x03 ∷ 0x02 ∷ 0x00 ∷ 0x07 ∷ 0xF9 ∷ 0x86 ∷ []
+  -- no whole field, and a register that is absent
+  pub technician-mismatch : frameTold (next inMode wordsFromEight) ≡ 0 ∷ 0 ∷ 0x01 ∷ 0x90 ∷ 0x80 ∷ 0x4D ∷ 0xA0 ∷ []
+  pub technician-gap : frameTold (next inMode wordsFromNine) ≡ 0 ∷ 0 ∷ 0x01 ∷ 0x90 ∷ 0x02 ∷ 0xCD ∷ 0xC1 ∷ []
+  -- "every entry carries the number that stood when it was accepted", in its word 3; none was given at first
+  pub technician-journalled : getD (calibrated .volume) 67 0 ≡ 7
+  pub technician-not-given : getD (next inMode update .volume) 67 0 ≡ 0
+  -- "A power-up sets the register to 0"; a begin leaves it
+  pub technician-cleared : powerUpOf 1 (calibrated .volume) .sonde .technician ≡ 0
+  pub technician-kept : beginOf (calibrated .sonde) (replicate 88 0) .sonde .technician ≡ 7

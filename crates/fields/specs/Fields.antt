@@ -25,6 +25,7 @@ fields =
     field 6 1 0 1 ∷  -- exceptions
     field 7 1 0 1 ∷  -- the journal's capacity
     field 8 1 0 1 ∷  -- entries in use
+    field 9 1 1 1 ∷  -- the technician's number; document 02, wish 3: "Device register 9 becomes writable"
     field 0 1 0 30 ∷  -- the sensor's number
     field 1 2 0 30 ∷  -- last calibration
     field 3 2 1 30 ∷  -- next calibration

@@ -21,6 +21,7 @@ sensorMap s o =
     || (not (eqb s 3) && between 16 23 o)
     || between 30 (parameterEnd s) o
 
--- "Device: 0 map version 3; 1 device id 1; 2..3 clock; 4, 5, 6 .. counters; 7 capacity; 8 in use. Sensor s begins at 100 × s"
+-- "Device: 0 map version 3; 1 device id 1; 2..3 clock; 4, 5, 6 .. counters; 7 capacity; 8 in use. Sensor s begins at 100 × s"; document
+-- 02, wish 3: "Device register 9"
 unfoldable pub inMap : ℕ → Bool
-inMap r = cond (ltb r 100) (leb r 8) (ltb r 500 && sensorMap (r / 100) (r % 100))
+inMap r = cond (ltb r 100) (leb r 9) (ltb r 500 && sensorMap (r / 100) (r % 100))

@@ -1,25 +1,28 @@
 -- The code's steps leave what the definition of the frame call says, and a reply's body is short enough for a frame. Assumes nothing.
-use mathlib.Core.Path.{_≡_, refl}
+use mathlib.Core.Path.{_≡_, refl, sym, ap}
 use mathlib.Core.List.{List}
 use Prim.Native.Nat.{ℕ, _/_, _%_, _≤_}
 use lib.Dec.{lit≤}
 use lib.ListN.{length}
 use Rattle.modbus.specs.declared.Header.{Header}
 use Rattle.sensors.specs.declared.Sensor.{Sensor}
+use Rattle.registers.specs.declared.Device.{Device}
 use Rattle.registers.specs.Registers.{registerOf}
 use Rattle.plans.specs.declared.Plan.{Plan}
 use Rattle.plans.specs.declared.Plan.the-variants.{Bad, Foreign, BroadcastRead, Refused, Reading, Writing}
 use Rattle.plans.proofs.Plans.{Facts}
-use Rattle.state.specs.Sonde.{sensorAt, setupAt}
-use Rattle.state.specs.declared.Counters.{Counters}
+use Rattle.state.specs.Sonde.{sensorAt, setupAt, withSensor, withSetup, withTechnician}
 use Rattle.state.specs.declared.Sonde.{Sonde}
-use Rattle.service.specs.Reads.{deviceOf, shownFrom, readingBody}
+use Rattle.service.specs.Reads.{deviceIn, shownFrom, readingBody}
 use Rattle.commands.specs.Commands.{codeOf}
-use Rattle.service.specs.Frame.{Answer, answer, contextOf, writtenBy, carriedOut, planned}
+use Rattle.commands.specs.declared.Written.{Written}
+use Rattle.commands.specs.declared.Written.the-variants.{Refused as WriteRefused, Failed, Stored, Updated, Technician}
+use Rattle.service.specs.Frame.{Answer, answer, writtenBy, writeAt, sondeAfter, carriedOut, planned}
 use Rattle.service.specs.declared.Arrival.{Arrival}
 use Rattle.service.proofs.Bodies.{refusal-sized, write-sized, read-sized}
+use Rattle.service.proofs.Kept.{with-setup-same}
 use Rattle.service.proofs.Registers.{shown-length, one-owner}
-use Rattle.execution.specs.Steps.{Step}
+use Rattle.execution.specs.Steps.{Step, changeOf}
 use Rattle.admission.specs.Steps.{ownerOf}
 use Rattle.frames.specs.Steps.{stepOf, changed}
 
@@ -27,27 +30,36 @@ use Rattle.frames.specs.Steps.{stepOf, changed}
 abbrev pub leaves : Sonde → ℕ → Step → Answer
 leaves d s x = answer (x .event) (x .body) (changed d s (x .change)) (x .volume)
 
+-- what a write changes is what the definition of the frame call says
+change-left : (d : Sonde) (o : ℕ) (y : Written) → changed d o (changeOf (sensorAt d o .setup) y) ≡ sondeAfter d o y
+unfolding sondeAfter setupAt withTechnician withSetup withSensor
+change-left d o (WriteRefused code) = refl
+change-left d o (Failed t) = refl
+change-left d o (Stored t) = refl
+change-left d o (Updated t e) = refl
+change-left d o (Technician n) = ap (λ (x : Sonde). withTechnician x n) (sym (with-setup-same d o))
+
 -- is what the definition says
 pub steps-left : (d : Sonde) (h : Header) (body w : List ℕ) (a : Arrival) (p : Plan) → Facts body p
-    → leaves d (ownerOf p) (stepOf (d .address) (d .counters) (sensorAt d (ownerOf p)) h body w a p) ≡ planned d h body w a p
+    → leaves d (ownerOf p) (stepOf (d .address) (deviceIn d w a) (sensorAt d (ownerOf p)) h body w p) ≡ planned d h body w a p
 unfolding carriedOut setupAt readingBody
 steps-left d h body w a Bad f = refl
 steps-left d h body w a Foreign f = refl
 steps-left d h body w a BroadcastRead f = refl
 steps-left d h body w a (Refused code) f = refl
-steps-left d h body w a (Reading start count) f = rw (one-owner d (deviceOf (d .counters) w a) start count (f .block))
-steps-left d h body w a (Writing s x v) f = refl
+steps-left d h body w a (Reading start count) f = rw (one-owner d (deviceIn d w a) start count (f .block))
+steps-left d h body w a (Writing o x v) f = rw (change-left d o (writeAt d w a o x v))
 
 -- ---- the length of a body
 
 -- the bodies of replies fit a frame
-pub step-short : (h : Header) (body : List ℕ) (own : ℕ) (c : Counters) (s : Sensor) (w : List ℕ) (a : Arrival) (p : Plan) → Facts body p → length body ≤ 254
-    → length (stepOf own c s h body w a p .body) ≤ 254
-step-short h body own c s w a Bad f l = lit≤ tt
-step-short h body own c s w a Foreign f l = lit≤ tt
-step-short h body own c s w a BroadcastRead f l = lit≤ tt
-step-short h body own c s w a (Refused code) f l = refusal-sized h body code .most
-step-short h body own c s w a (Reading start count) f l =
-    let r = registerOf (start / 100) (deviceOf c w a) s in
+pub step-short : (h : Header) (body : List ℕ) (own : ℕ) (e : Device) (s : Sensor) (w : List ℕ) (p : Plan) → Facts body p → length body ≤ 254
+    → length (stepOf own e s h body w p .body) ≤ 254
+step-short h body own e s w Bad f l = lit≤ tt
+step-short h body own e s w Foreign f l = lit≤ tt
+step-short h body own e s w BroadcastRead f l = lit≤ tt
+step-short h body own e s w (Refused code) f l = refusal-sized h body code .most
+step-short h body own e s w (Reading start count) f l =
+    let r = registerOf (start / 100) e s in
     read-sized own (shownFrom r (start % 100) count) (rw (shown-length r (start % 100) count) (f .most)) .most
-step-short h body own c s w a (Writing o x v) f l = write-sized h body (codeOf (writtenBy o s x v (contextOf w a))) l (f .long) .most
+step-short h body own e s w (Writing o x v) f l = write-sized h body (codeOf (writtenBy o e s x v)) l (f .long) .most

@@ -1,5 +1,5 @@
--- What comes of a frame, from the parts of the sonde that the code hands on: its address, its counters, and the sensor that the plan names. No
--- reader has to believe these definitions: `steps-left` (frames/proofs/Steps) says that they leave what the definition of the frame call does.
+-- What comes of a frame, from the parts of the sonde that the code hands on: its address, the values of the device, and the sensor that the plan
+-- names. No reader has to believe these definitions: `steps-left` (frames/proofs/Steps) says that they leave what the definition of the frame call does.
 -- Assumes nothing.
 use mathlib.Core.Bool.{Bool}
 use mathlib.Core.List.{List, []}
@@ -9,39 +9,39 @@ use Rattle.framing.specs.Framing.{Carried, bodyOf}
 use Rattle.modbus.specs.Request.{headerOf}
 use Rattle.modbus.specs.declared.Header.{Header}
 use Rattle.sensors.specs.declared.Sensor.{Sensor}
+use Rattle.registers.specs.declared.Device.{Device}
 use Rattle.plans.specs.declared.Plan.{Plan}
 use Rattle.plans.specs.declared.Plan.the-variants.{Bad, Foreign, BroadcastRead, Refused, Reading, Writing}
-use Rattle.state.specs.Sonde.{withSetup}
-use Rattle.state.specs.declared.Counters.{Counters}
+use Rattle.state.specs.Sonde.{withSetup, withTechnician}
 use Rattle.state.specs.declared.Event.the-variants.{Uncounted, Bad as CountedBad, Good, Exception}
 use Rattle.state.specs.declared.Sonde.{Sonde}
 use Rattle.replies.specs.Reply.{replyOf}
-use Rattle.service.specs.Frame.{planFor, refusalBody, contextOf, writtenBy}
-use Rattle.service.specs.declared.Arrival.{Arrival}
+use Rattle.service.specs.Frame.{planFor, refusalBody, writtenBy}
 use Rattle.reads.specs.Steps.{ownedBody}
 use Rattle.execution.specs.Steps.{Step, step, writeStep}
 use Rattle.execution.specs.declared.Change.{Change}
-use Rattle.execution.specs.declared.Change.the-variants.{Nothing, Setup}
+use Rattle.execution.specs.declared.Change.the-variants.{Nothing, Setup, Technician}
 use Rattle.frames.specs.declared.Served.{Served}
 
--- what comes of a plan; own is the sonde's address, s the sensor that the plan names
-abbrev pub stepOf : ℕ → Counters → Sensor → Header → List ℕ → List ℕ → Arrival → Plan → Step
-stepOf own c s h body w a Bad = step CountedBad [] Nothing w
-stepOf own c s h body w a Foreign = step Uncounted [] Nothing w
-stepOf own c s h body w a BroadcastRead = step Good [] Nothing w
-stepOf own c s h body w a (Refused code) = step Exception (refusalBody h code) Nothing w
-stepOf own c s h body w a (Reading start count) = step Good (ownedBody own c s w a start count) Nothing w
-stepOf own c s h body w a (Writing owner f v) = writeStep h body w s (writtenBy owner s f v (contextOf w a))
+-- what comes of a plan; own is the sonde's address, e has the device's values, s is the sensor that the plan names
+abbrev pub stepOf : ℕ → Device → Sensor → Header → List ℕ → List ℕ → Plan → Step
+stepOf own e s h body w Bad = step CountedBad [] Nothing w
+stepOf own e s h body w Foreign = step Uncounted [] Nothing w
+stepOf own e s h body w BroadcastRead = step Good [] Nothing w
+stepOf own e s h body w (Refused code) = step Exception (refusalBody h code) Nothing w
+stepOf own e s h body w (Reading start count) = step Good (ownedBody own e s start count) Nothing w
+stepOf own e s h body w (Writing owner f v) = writeStep h body w s (writtenBy owner e s f v)
 
 -- of what a frame carries
-unfoldable pub stepFor : ℕ → Counters → Sensor → Carried → List ℕ → Arrival → Step
-stepFor own c s x w a = stepOf own c s (headerOf (bodyOf x)) (bodyOf x) w a (planFor own x)
+unfoldable pub stepFor : ℕ → Device → Sensor → Carried → List ℕ → Step
+stepFor own e s x w = stepOf own e s (headerOf (bodyOf x)) (bodyOf x) w (planFor own x)
 
 -- what the code hands on of it; the rest is in the lent slices
 abbrev pub servedOf : Bool → Step → Served
 servedOf ascii x = record { event = x .event; length = length (replyOf ascii (x .body)); change = x .change }
 
--- the sonde with a change of the sensor that was named
+-- the sonde with a change of the sensor that was named, or of the technician's number
 abbrev pub changed : Sonde → ℕ → Change → Sonde
 changed d s Nothing = d
 changed d s (Setup x) = withSetup d s x
+changed d s (Technician n) = withTechnician d n

@@ -10,6 +10,7 @@ ghost use Rattle.framing.specs.Framing.{roomIn};
 ghost use Rattle.framing.specs.Steps.{carriedBy};
 ghost use Rattle.plans.proofs.Plans.{Facts};
 ghost use Rattle.replies.specs.Reply.{replyOf};
+ghost use Rattle.service.specs.Reads.{deviceOf};
 ghost use Rattle.admission.specs.Steps.{judgedOf};
 ghost use Rattle.execution.specs.Steps.{effectOf};
 ghost use Rattle.frames.specs.Steps.{stepOf, stepFor, servedOf};
@@ -48,15 +49,16 @@ fn answer(
     volume: &mut [u16],
     own: u8,
     counters: Counters,
+    technician: u16,
     sensor: Sensor,
     header: Header,
     body: &[u8],
     arrival: Arrival,
 ) -> Effect
     requires { ⌜ (256 ≤ length (now reply)) × (length (now body) ≤ 254) × (valid (now volume) ≡ true) × Facts (now body) plan ⌝ }
-    ensures { λ r. ⌜ r ≡ effectOf (stepOf own counters sensor header (now (body .entry)) (now (volume .entry)) arrival plan) ⌝ }
-    ensures { λ _. ⌜ now (reply .exit) ≡ overlay (stepOf own counters sensor header (now (body .entry)) (now (volume .entry)) arrival plan .body) (now (reply .entry)) ⌝ }
-    ensures { λ _. ⌜ now (volume .exit) ≡ stepOf own counters sensor header (now (body .entry)) (now (volume .entry)) arrival plan .volume ⌝ }
+    ensures { λ r. ⌜ r ≡ effectOf (stepOf own (deviceOf counters technician (now (volume .entry)) arrival) sensor header (now (body .entry)) (now (volume .entry)) plan) ⌝ }
+    ensures { λ _. ⌜ now (reply .exit) ≡ overlay (stepOf own (deviceOf counters technician (now (volume .entry)) arrival) sensor header (now (body .entry)) (now (volume .entry)) plan .body) (now (reply .entry)) ⌝ }
+    ensures { λ _. ⌜ now (volume .exit) ≡ stepOf own (deviceOf counters technician (now (volume .entry)) arrival) sensor header (now (body .entry)) (now (volume .entry)) plan .volume ⌝ }
 {
     match plan {
         Plan::Bad => counted(Event::Bad, 0),
@@ -65,7 +67,14 @@ fn answer(
         Plan::Refused(code) => counted(Event::Exception, execution::refuse(reply, header, code)),
         Plan::Reading { start, count } => counted(
             Event::Good,
-            reads::read(reply, own, counters, sensor, volume, arrival, start, count),
+            reads::read(
+                reply,
+                own,
+                reads::device(counters, technician, volume, arrival),
+                sensor,
+                start,
+                count,
+            ),
         ),
         Plan::Writing {
             owner,
@@ -76,7 +85,7 @@ fn answer(
             volume,
             header,
             body,
-            arrival,
+            reads::device(counters, technician, volume, arrival),
             owner,
             sensor,
             field,
@@ -85,7 +94,8 @@ fn answer(
     }
 }
 
-// What comes of a frame whose body was judged. Of the sonde it needs the address, the counters and the sensor that the frame names.
+// What comes of a frame whose body was judged. Of the sonde it needs the address, the counters, the technician's number and the sensor
+// that the frame names.
 pub fn serve(
     judged: Judged,
     body: &[u8],
@@ -93,14 +103,15 @@ pub fn serve(
     volume: &mut [u16],
     own: u8,
     counters: Counters,
+    technician: u16,
     sensor: Sensor,
     arrival: Arrival,
 ) -> Served
     requires { ⌜ (roomIn (arrival .ascii) ≤ length (now reply)) × (length (now body) ≤ 254) × (valid (now volume) ≡ true) × (judged ≡ judgedOf own (now body)) ⌝ }
-    ensures { λ r. ⌜ r ≡ servedOf (arrival .ascii) (stepFor own counters sensor (carriedBy (now (body .entry))) (now (volume .entry)) arrival) ⌝ }
-    ensures { λ _. ⌜ now (reply .exit) ≡ overlay (replyOf (arrival .ascii) (stepFor own counters sensor (carriedBy (now (body .entry))) (now (volume .entry)) arrival .body)) (now (reply .entry)) ⌝ }
-    ensures { λ _. ⌜ now (volume .exit) ≡ stepFor own counters sensor (carriedBy (now (body .entry))) (now (volume .entry)) arrival .volume ⌝ }
-    ensures { λ _. ⌜ Bytes (stepFor own counters sensor (carriedBy (now (body .entry))) (now (volume .entry)) arrival .body) ⌝ }
+    ensures { λ r. ⌜ r ≡ servedOf (arrival .ascii) (stepFor own (deviceOf counters technician (now (volume .entry)) arrival) sensor (carriedBy (now (body .entry))) (now (volume .entry))) ⌝ }
+    ensures { λ _. ⌜ now (reply .exit) ≡ overlay (replyOf (arrival .ascii) (stepFor own (deviceOf counters technician (now (volume .entry)) arrival) sensor (carriedBy (now (body .entry))) (now (volume .entry)) .body)) (now (reply .entry)) ⌝ }
+    ensures { λ _. ⌜ now (volume .exit) ≡ stepFor own (deviceOf counters technician (now (volume .entry)) arrival) sensor (carriedBy (now (body .entry))) (now (volume .entry)) .volume ⌝ }
+    ensures { λ _. ⌜ Bytes (stepFor own (deviceOf counters technician (now (volume .entry)) arrival) sensor (carriedBy (now (body .entry))) (now (volume .entry)) .body) ⌝ }
 {
     let plan = judged.plan;
     let effect = answer(
@@ -109,6 +120,7 @@ pub fn serve(
         volume,
         own,
         counters,
+        technician,
         sensor,
         judged.header,
         body,

@@ -20,7 +20,7 @@ const SENSORS_1_3: u8 = 10;
 
 const SENSORS_1_2_4: u8 = 22;
 
-pub const ROWS: usize = 40;
+pub const ROWS: usize = 41;
 
 pub const FIELDS: [Field; ROWS] = [
     // the map's version
@@ -77,6 +77,13 @@ pub const FIELDS: [Field; ROWS] = [
         offset: 8,
         words: 1,
         access: READ_ONLY,
+        owners: DEVICE,
+    },
+    // the technician's number
+    Field {
+        offset: 9,
+        words: 1,
+        access: WRITABLE,
         owners: DEVICE,
     },
     // the sensor's number

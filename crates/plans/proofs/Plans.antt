@@ -1,4 +1,4 @@
--- What is known of a plan: a read stays on the map, and a write goes to a sensor's writable field. Assumes nothing.
+-- What is known of a plan: a read stays on the map, and a write goes to a writable field of the device or of a sensor. Assumes nothing.
 use mathlib.Core.Path.{_≡_, refl, sym, subst}
 use mathlib.Core.Bool.{true}
 use mathlib.Core.List.{List}
@@ -20,7 +20,7 @@ use Rattle.fields.specs.declared.Span.the-variants.{Whole, Mismatch, Gap}
 use Rattle.fields.proofs.Registers.{whole-row}
 use Rattle.fields.proofs.Runs.{all-found-ends, all-found-block}
 use Rattle.fields.proofs.Spans.{Says, span-says}
-use Rattle.fields.proofs.Writable.{written-sensor}
+use Rattle.fields.proofs.Writable.{found-owner, device-written}
 use Rattle.plans.specs.Plans.{targetIn, targetOf, readPlanIn, readPlan, writePlan, requestPlan, planOf}
 use Rattle.plans.specs.declared.Target.{Target}
 use Rattle.plans.specs.declared.Target.the-variants.{Unfit, Writable}
@@ -35,7 +35,9 @@ pub record Located (count owner : ℕ) (f : Field) : Type 0 where
   pub begins : f .offset ≡ register % 100
   pub all : f .words ≡ count
   pub writable : f .access ≡ 0 → ⊥
-  pub is-sensor : (1 ≤ owner) × (owner ≤ 4)
+  pub owner-most : owner ≤ 4
+  -- the device's is the technician's number
+  pub device : owner ≡ 0 → f .offset ≡ 9
 
 pub record Reads (start count : ℕ) : Type 0 where
   pub least : 1 ≤ count
@@ -75,7 +77,8 @@ module _ (start count : ℕ) where
         begins = w .begins;
         all = w .all;
         writable = n;
-        is-sensor = written-sensor start f (w .field) n;
+        owner-most = found-owner start f (w .field);
+        device = device-written start f (w .field) n;
       })
   span-fit Mismatch s = tt
   span-fit Gap s = tt

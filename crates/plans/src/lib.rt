@@ -29,7 +29,7 @@ pub enum Plan {
         start: u16,
         count: u16,
     },
-    // One whole writable field, and what it is given.
+    // One whole writable field of an owner, the device (0) or a sensor, and what it is given.
     Writing {
         owner: u16,
         field: Field,

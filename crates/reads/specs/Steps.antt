@@ -4,10 +4,9 @@ use mathlib.Core.List.{List}
 use Prim.Native.Nat.{ℕ, _/_, _%_}
 use Rattle.replies.specs.Reply.{readBody}
 use Rattle.registers.specs.Registers.{registerOf}
+use Rattle.registers.specs.declared.Device.{Device}
 use Rattle.sensors.specs.declared.Sensor.{Sensor}
-use Rattle.state.specs.declared.Counters.{Counters}
-use Rattle.service.specs.Reads.{deviceOf, shownFrom}
-use Rattle.service.specs.declared.Arrival.{Arrival}
+use Rattle.service.specs.Reads.{shownFrom}
 
-abbrev pub ownedBody : ℕ → Counters → Sensor → List ℕ → Arrival → ℕ → ℕ → List ℕ
-ownedBody address c s w a start count = readBody address (shownFrom (registerOf (start / 100) (deviceOf c w a) s) (start % 100) count)
+abbrev pub ownedBody : ℕ → Device → Sensor → ℕ → ℕ → List ℕ
+ownedBody address e s start count = readBody address (shownFrom (registerOf (start / 100) e s) (start % 100) count)

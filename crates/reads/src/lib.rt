@@ -12,8 +12,8 @@ use service::Arrival;
 use state::Counters;
 
 // The values that the device's registers show.
-fn device(c: Counters, volume: &[u16], arrival: Arrival) -> Device
-    ensures { λ r. ⌜ r ≡ deviceOf c (now (volume .entry)) arrival ⌝ }
+pub fn device(c: Counters, technician: u16, volume: &[u16], arrival: Arrival) -> Device
+    ensures { λ r. ⌜ r ≡ deviceOf c technician (now (volume .entry)) arrival ⌝ }
 {
     Device {
         clock: arrival.clock,
@@ -22,17 +22,8 @@ fn device(c: Counters, volume: &[u16], arrival: Arrival) -> Device
         exceptions: c.exceptions,
         capacity: volume::capacity(volume.len()),
         used: volume::used(volume),
+        technician,
     }
-}
-
-// A register by its owner, 0 for the device or a sensor's number, and its offset.
-fn register_of(owner: u16, device: Device, sensor: Sensor, offset: u16) -> u16
-    ensures { λ r. ⌜ r ≡ registerOf owner device sensor offset ⌝ }
-{
-    if owner == 0 {
-        return registers::device_register(device, offset);
-    }
-    registers::sensor_register(owner, sensor, offset)
 }
 
 // An owner's registers from an offset on, as many as there are words.
@@ -41,33 +32,25 @@ fn fill(words: &mut [u16], owner: u16, device: Device, sensor: Sensor, offset: u
     ensures { λ _. ⌜ now (words .exit) ≡ shownFrom (registerOf owner device sensor) offset (length (now (words .entry))) ⌝ }
 {
     for i in 0..words.len() {
-        words[i] = register_of(owner, device, sensor, offset + (i as u16));
+        words[i] = registers::register_of(owner, device, sensor, offset + (i as u16));
     }
 }
 
-// The body of the reply to a read, from the values of the sensor that it names.
+// The body of the reply to a read, from the values of the device and of the sensor that it names.
 pub fn read(
     reply: &mut [u8],
     address: u8,
-    counters: Counters,
+    device: Device,
     sensor: Sensor,
-    volume: &[u16],
-    arrival: Arrival,
     start: u16,
     count: u16,
 ) -> usize
     requires { ⌜ (256 ≤ length (now reply)) × (count ≤ 125) × (start % 100 + count ≤ 100) ⌝ }
-    ensures { λ r. ⌜ r ≡ length (ownedBody address counters sensor (now (volume .entry)) arrival start count) ⌝ }
-    ensures { λ _. ⌜ now (reply .exit) ≡ overlay (ownedBody address counters sensor (now (volume .entry)) arrival start count) (now (reply .entry)) ⌝ }
+    ensures { λ r. ⌜ r ≡ length (ownedBody address device sensor start count) ⌝ }
+    ensures { λ _. ⌜ now (reply .exit) ≡ overlay (ownedBody address device sensor start count) (now (reply .entry)) ⌝ }
 {
     let mut words: [u16; 125] = [0; 125];
     let n = count as usize;
-    fill(
-        &mut words[..n],
-        start / 100,
-        device(counters, volume, arrival),
-        sensor,
-        start % 100,
-    );
+    fill(&mut words[..n], start / 100, device, sensor, start % 100);
     replies::put_read(reply, address, &words[..n])
 }

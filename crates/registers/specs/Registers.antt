@@ -73,7 +73,8 @@ sensorRegister sensor s o =
     (cond (ltb o 30) 0
     (cond (ltb o 54) (parameterRegister sensor s (parameterNumber o) (parameterPart o)) 0))))
 
--- "Device: 0 map version 3; 1 device id 1; 2..3 clock; 4, 5, 6 good, bad, exception counters; 7 capacity; 8 in use"
+-- "Device: 0 map version 3; 1 device id 1; 2..3 clock; 4, 5, 6 good, bad, exception counters; 7 capacity; 8 in use". Document 02, wish 3: "Device
+-- register 9 becomes writable, a number 0..65535", the technician's
 unfoldable pub deviceRegister : Device → ℕ → ℕ
 deviceRegister d o =
     cond (eqb o 0) 3
@@ -83,7 +84,8 @@ deviceRegister d o =
     (cond (eqb o 5) (d .bad)
     (cond (eqb o 6) (d .exceptions)
     (cond (eqb o 7) (d .capacity)
-    (cond (eqb o 8) (d .used) 0))))))))
+    (cond (eqb o 8) (d .used)
+    (cond (eqb o 9) (d .technician) 0)))))))))
 
 -- "Sensor s begins at 100 × s": a register by its owner, 0 for the device or a sensor's number, and its offset
 unfoldable pub registerOf : ℕ → Device → Sensor → ℕ → ℕ

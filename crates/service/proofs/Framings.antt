@@ -20,7 +20,7 @@ use Rattle.plans.specs.declared.Plan.the-variants.{Bad, Foreign, BroadcastRead,
 use Rattle.plans.proofs.Plans.{Facts}
 use Rattle.state.specs.declared.Sonde.{Sonde}
 use Rattle.service.specs.Agrees.{agrees}
-use Rattle.service.specs.Reads.{deviceOf, registerAt, shownFrom, readingBody}
+use Rattle.service.specs.Reads.{deviceOf, deviceIn, registerAt, shownFrom, readingBody}
 use Rattle.service.specs.Frame.{Answer, writeAt, carriedOut, planned, planFor, answerOf, answerTo, Outcome, outcome, refusedBy, left, frameOf}
 use Rattle.service.specs.Framings.{SameEffect, OneEffect}
 use Rattle.service.specs.declared.Arrival.{Arrival}
@@ -37,7 +37,7 @@ planned-sized d h body w a Foreign f l = none-sized
 planned-sized d h body w a BroadcastRead f l = none-sized
 planned-sized d h body w a (Refused code) f l = refusal-sized h body code
 planned-sized d h body w a (Reading start count) f l =
-    let r = registerAt d (deviceOf (d .counters) w a) in
+    let r = registerAt d (deviceIn d w a) in
     read-sized (d .address) (shownFrom r start count) (rw (shown-length r start count) (f .most))
 planned-sized d h body w a (Writing s x v) f l = write-sized h body (codeOf (writeAt d w a s x v)) l (f .long)
 

@@ -2,11 +2,11 @@
 -- the exception of document 02, wish 2, which `refusedLeaves` has; document 01: "Reply bytes past the reply's length stay", and "the free words past
 -- the entries in use keep what they held". Assumes nothing.
 use mathlib.Core.Path.{_≡_, refl, ap}
-use mathlib.Core.Bool.{Bool, true, false, _&&_, cond}
+use mathlib.Core.Bool.{Bool, true, false, cond}
 use mathlib.Core.List.{List}
-use Prim.Native.Nat.{ℕ, _-_}
+use Prim.Native.Nat.{ℕ, zero, suc, _-_}
 use native.Mathlib.Omega.{arith}
-use lib.Dec.{eqb, ltb}
+use lib.Dec.{ltb}
 use lib.Ieee.{Float}
 use lib.ListN.{length, getD, drop}
 use lib.Seq.{drop-append-seam, set-getD}
@@ -32,24 +32,27 @@ use Rattle.sensors.specs.Changes.{sensorWithSetup}
 use Rattle.sensors.specs.declared.Setup.{Setup}
 use Rattle.sensors.specs.declared.Sensor.{Sensor}
 use Rattle.registers.specs.Registers.{sensorRegister}
-use Rattle.commands.specs.Commands.{codeOf, refusedUpdate}
+use Rattle.commands.specs.Commands.{contextOf, codeOf, setupAfter, refusedUpdate}
+use Rattle.commands.specs.declared.Context.{Context}
 use Rattle.writes.proofs.Laws.{Journalled, nothing, entry, journalled}
-use Rattle.writes.proofs.Updates.{refused-leaves, refused-journals}
+use Rattle.writes.proofs.Updates.{refused-leaves, refused-journals, refused-technician}
 use Rattle.plans.specs.declared.Plan.{Plan}
 use Rattle.plans.specs.declared.Plan.the-variants.{Bad, Foreign, BroadcastRead, Refused, Reading, Writing}
 use Rattle.plans.proofs.Plans.{Facts}
-use Rattle.state.specs.Sonde.{addressValid, validSonde, sonde, noSensor, sensorAt, setupAt, withSensor, withSetup}
+use Rattle.state.specs.Sonde.{addressValid, validSonde, sonde, noSensor, sensorAt, setupAt, withSensor, withSetup, withTechnician}
 use Rattle.state.specs.declared.Event.the-variants.{Exception}
 use Rattle.state.specs.declared.Sonde.{Sonde}
 use Rattle.service.specs.Agrees.{openings, agrees}
 use Rattle.service.specs.Calls.{made, rejected, freshOf, Begun, begun, beginOf, poweredBy, powerUpOf, rawsFinite, measureOf, auditOf}
 use Rattle.replies.specs.Reply.{replyOf}
-use Rattle.service.specs.Frame.{firstWord, secondWord, answer, refusalBody, writeBody, contextOf, writtenBy, writeAt, isUpdate, carriedOut, planned, codeBy, planFor, answerOf, answerTo, Outcome, outcome, refusedBy, left, frameOf}
+use Rattle.service.specs.Reads.{deviceIn}
+use Rattle.service.specs.Frame.{firstWord, secondWord, answer, refusalBody, writeBody, writeAt, isUpdate, sondeAfter, carriedOut, planned, codeBy, planFor, answerOf, answerTo, Outcome, outcome, refusedBy, left, frameOf}
 use Rattle.service.specs.Refusals.{refusedLeaves}
 use Rattle.service.specs.declared.Arrival.{Arrival}
 use Rattle.service.specs.declared.SondeMade.{SondeMade}
 use Rattle.service.specs.declared.SondeAudit.{SondeAudit}
 use Rattle.service.proofs.Parts.{agrees-parts, frame-facts}
+use Rattle.service.proofs.Owners.{device-write, sensor-write, sensor-update}
 
 -- ---- a number
 
@@ -155,26 +158,36 @@ begin-keeps d w =
 -- a sensor's own setup, put back
 pub with-setup-same : (d : Sonde) (s : ℕ) → withSetup d s (setupAt d s) ≡ d
 unfolding withSetup withSensor setupAt sensorAt sensorWithSetup
-with-setup-same d s = ap (λ (l : List Sensor). sonde (d .address) l (d .counters)) (set-getD (d .sensors) (s - 1) noSensor)
+with-setup-same d s = ap (λ (l : List Sensor). sonde (d .address) (d .technician) l (d .counters)) (set-getD (d .sensors) (s - 1) noSensor)
 
--- the write of a field that is refused
-write-refused : (d : Sonde) (h : Header) (body w : List ℕ) (a : Arrival) (s : ℕ) (f : Field) (v : Value) → (codeOf (writeAt d w a s f v) ≡ 0 → ⊥)
-    → carriedOut d h body w s (writeAt d w a s f v) ≡ answer Exception (refusalBody h (codeOf (writeAt d w a s f v))) (refusedLeaves d (Writing s f v)) w
-unfolding carriedOut writeBody writtenBy isUpdate setupAt
-write-refused d h body w a s f v n =
-    let x = sensorAt d s in
-    let high = firstWord (sensorRegister s x (f .offset)) v in
+-- the setup that a refused write leaves
+write-leaves : (d : Sonde) (w : List ℕ) (a : Arrival) (o : ℕ) (f : Field) (v : Value) → (codeOf (writeAt d w a o f v) ≡ 0 → ⊥)
+    → setupAfter (setupAt d o) (writeAt d w a o f v) ≡ cond (isUpdate o (sensorAt d o) f v) (refusedUpdate o (setupAt d o)) (setupAt d o)
+unfolding setupAt
+write-leaves d w a zero f v n = absurd (n (rw (device-write (deviceIn d w a) (sensorAt d 0) f v)))
+write-leaves d w a (suc s) f v n =
+    let x = sensorAt d (suc s) in
+    let q = sensor-write (deviceIn d w a) x f v (suc s) (omega arith) in
+    rw (q, sensor-update x f v (suc s) (omega arith))
+    (refused-leaves (suc s) (x .setup) f (firstWord (sensorRegister (suc s) x (f .offset)) v) (secondWord v) (contextOf (deviceIn d w a)) (rw q at n))
+
+-- the write of a field that is refused: a sensor's, since the device's never is
+write-refused : (d : Sonde) (h : Header) (body w : List ℕ) (a : Arrival) (o : ℕ) (f : Field) (v : Value) → (codeOf (writeAt d w a o f v) ≡ 0 → ⊥)
+    → carriedOut d h body w o (writeAt d w a o f v) ≡ answer Exception (refusalBody h (codeOf (writeAt d w a o f v))) (refusedLeaves d (Writing o f v)) w
+unfolding carriedOut sondeAfter writeBody withTechnician withSetup withSensor
+write-refused d h body w a o f v n =
     rw (
-      ne-eqb (codeOf (writeAt d w a s f v)) 0 n,
-      refused-journals (writeAt d w a s f v) n,
-      refused-leaves s (x .setup) f high (secondWord v) (contextOf w a) n,
+      ne-eqb (codeOf (writeAt d w a o f v)) 0 n,
+      refused-journals (writeAt d w a o f v) n,
+      refused-technician (d .technician) (writeAt d w a o f v) n,
+      write-leaves d w a o f v n,
     )
-    (go (eqb (f .offset) 5 && eqb high 0xE001))
+    (go (isUpdate o (sensorAt d o) f v))
   where
-    go : (u : Bool) → answer Exception (refusalBody h (codeOf (writeAt d w a s f v))) (withSetup d s (cond u (refusedUpdate s (setupAt d s)) (setupAt d s))) w
-        ≡ answer Exception (refusalBody h (codeOf (writeAt d w a s f v))) (cond u (withSetup d s (refusedUpdate s (setupAt d s))) d) w
+    go : (u : Bool) → answer Exception (refusalBody h (codeOf (writeAt d w a o f v))) (withSetup d o (cond u (refusedUpdate o (setupAt d o)) (setupAt d o))) w
+        ≡ answer Exception (refusalBody h (codeOf (writeAt d w a o f v))) (cond u (withSetup d o (refusedUpdate o (setupAt d o))) d) w
     go true = refl
-    go false = rw (with-setup-same d s)
+    go false = rw (with-setup-same d o)
 
 -- what is refused by a code has the refusal's answer, the volume stays, and so does the sonde, but for the trial coefficients of a sensor whose
 -- update is refused for its limits alone
@@ -204,18 +217,21 @@ module _ (w : List ℕ) (v : valid w ≡ true) (a : Arrival) where
       let u = append-used w e (omega (arith, valid-length w v)) in
       record { whole = λ q. absurd (omega (arith, q, u)); free = rw u (append-keeps w e k (valid-last w v (e .sensor) k)) }
 
-  write-volume : (s : ℕ) → IsSensor s → {x t : Setup} {code : ℕ} {es : List Entry} → Journalled s x t (contextOf w a) code es → Keeps w (appendsOf w es)
+  write-volume : (s : ℕ) → IsSensor s → {x t : Setup} {c : Context} {code : ℕ} {es : List Entry} → Journalled s x t c code es → Keeps w (appendsOf w es)
   write-volume s k (nothing h) = same w
   write-volume s k (entry e z r i q g f) = append-volume e (rw i k)
 
   planned-volume : (d : Sonde) (h : Header) (body : List ℕ) (p : Plan) → Facts body p → Keeps w (planned d h body w a p .volume)
-  unfolding carriedOut writtenBy
+  unfolding carriedOut
   planned-volume d h body Bad k = same w
   planned-volume d h body Foreign k = same w
   planned-volume d h body BroadcastRead k = same w
   planned-volume d h body (Refused code) k = same w
   planned-volume d h body (Reading start count) k = same w
-  planned-volume d h body (Writing s f x) k = write-volume s (k .located .is-sensor) (journalled s (sensorAt d s .setup) f _ _ (contextOf w a))
+  planned-volume d h body (Writing zero f x) k = rw (device-write (deviceIn d w a) (sensorAt d 0) f x) (same w)
+  planned-volume d h body (Writing (suc s) f x) k =
+      rw (sensor-write (deviceIn d w a) (sensorAt d (suc s)) f x (suc s) (omega arith))
+      (write-volume (suc s) (omega arith, k .located .owner-most) (journalled (suc s) (sensorAt d (suc s) .setup) f _ _ (contextOf (deviceIn d w a))))
 
 -- what a frame keeps, refused or not
 pub record FrameKeeps (reply w : List ℕ) (o : Outcome) : Type 0 where

@@ -1,14 +1,14 @@
 -- An update that is refused for its limits alone shows its candidate, and every other refusal by a code leaves the sonde, the counters aside. Assumes
 -- nothing.
 use mathlib.Core.Path.{_≡_, refl, sym, ap, ap₂, subst, _∙_}
-use mathlib.Core.Bool.{Bool, true, false, cond}
+use mathlib.Core.Bool.{Bool, true, false, _&&_, not, cond}
 use mathlib.Core.List.{List, _∷_}
 use Prim.Native.Nat.{ℕ, zero, suc, _+_, _*_, _-_, _/_, _%_, _<_, _≤_}
 use native.Mathlib.Omega.{arith}
 use lib.Dec.{eqb, ltb}
 use lib.ListN.{length, getD, take, drop, List·getD-eq-default}
 use lib.Seq.{drop-cons}
-use borrow.Author.Tests.{eqb-true, ltb-true, ltb-false, le-ltb, eq-eqb, ne-eqb}
+use borrow.Author.Tests.{eqb-true, eqb-false, not-true, ltb-true, ltb-false, le-ltb, eq-eqb, ne-eqb}
 use Rattle.words.proofs.Stores.{overlay-start}
 use Rattle.framing.specs.Framing.{Carried, carriedIn, bodyOf, roomIn}
 use Rattle.modbus.specs.Request.{headerOf}
@@ -32,20 +32,21 @@ use Rattle.sensors.proofs.Setups.{valid-sensor-parts}
 use Rattle.sensors.proofs.Changed.{with-trial-valid}
 use Rattle.registers.specs.Registers.{shownCoefficients, coefficientRegister, sensorRegister, registerOf}
 use Rattle.registers.specs.declared.Device.{Device}
-use Rattle.commands.specs.Commands.{methodSet, triedBy, refusedUpdate}
+use Rattle.commands.specs.Commands.{contextOf, methodSet, triedBy, refusedUpdate}
 use Rattle.commands.specs.declared.Written.the-variants.{Failed}
 use Rattle.writes.proofs.Updates.{update-fails}
 use Rattle.plans.specs.declared.Plan.{Plan}
 use Rattle.plans.specs.declared.Plan.the-variants.{Bad, Foreign, BroadcastRead, Refused, Reading, Writing}
-use Rattle.state.specs.Sonde.{noSensor, sensorAt, setupAt, withSensor, withSetup, countedBy, addressValid, validSonde}
+use Rattle.state.specs.Sonde.{noSensor, sensorAt, setupAt, withSensor, withSetup, withTechnician, countedBy, addressValid, validSonde}
 use Rattle.state.specs.declared.Event.the-variants.{Exception}
 use Rattle.state.specs.declared.Sonde.{Sonde}
 use Rattle.service.specs.Agrees.{openings, journalAgrees, agrees}
-use Rattle.service.specs.Reads.{deviceOf, registerAt, shownFrom, readingBody}
-use Rattle.service.specs.Frame.{firstWord, secondWord, Answer, answer, refusalBody, writeBody, contextOf, writtenBy, writeAt, isUpdate, carriedOut, codeBy, planFor, answerOf, Outcome, left, frameOf}
+use Rattle.service.specs.Reads.{deviceIn, registerAt, shownFrom, readingBody}
+use Rattle.service.specs.Frame.{firstWord, secondWord, Answer, answer, refusalBody, writeBody, writeAt, isUpdate, sondeAfter, carriedOut, codeBy, planFor, answerOf, Outcome, left, frameOf}
 use Rattle.service.specs.Framings.{sentBy}
 use Rattle.service.specs.Refusals.{refusedLeaves, refusedWith, FailedUpdate, coefficientWords, CandidateShown, FailedUpdatesShown, OtherRefusalsKeep}
 use Rattle.service.specs.declared.Arrival.{Arrival}
+use Rattle.service.proofs.Owners.{sensor-write}
 use Rattle.service.proofs.Kept.{with-setup-same, code-keeps}
 use Rattle.service.proofs.Parts.{valid-sensors, valid-sonde, frame-facts}
 
@@ -159,7 +160,7 @@ module _ (d : Sonde) (s : ℕ) (k : IsSensor s) (c : Coefficients) (mode : setup
       → roomIn (a .ascii) ≤ length reply → sentBy (frameOf d' frame reply w a) ≡ replyOf (a .ascii) (readBody (d .address) (take n (drop i (coefficientWords c))))
   unfolding readingBody
   read-after w frame reply a i n h p l room =
-      let v = deviceOf (d' .counters) w a in
+      let v = deviceIn d' w a in
       let words = shown-words (registerAt d' v) (coefficientWords c) (100 * s + 10) i n (register-after v) l in
       read-sent d' frame reply w a (100 * s + 10 + i) n h (ap (λ (own : ℕ). planFor own (carriedIn (a .ascii) frame)) address-after ∙ p) room
       ∙ ap₂ (λ (own : ℕ) (x : List ℕ). replyOf (a .ascii) (readBody own x)) address-after words
@@ -169,13 +170,15 @@ module _ (d : Sonde) (s : ℕ) (k : IsSensor s) (c : Coefficients) (mode : setup
 -- what a frame asks for is a failed update
 write-fails : (d : Sonde) (frame w : List ℕ) (a : Arrival) (s : ℕ) (c : Coefficients) (u : FailedUpdate d frame a s c)
     → writeAt d w a s (u .field) (u .value) ≡ Failed (withTrial (setupAt d s) c)
-unfolding writtenBy isUpdate setupAt
+unfolding isUpdate setupAt
 write-fails d frame w a s c u =
     let x = sensorAt d s in
     let high = firstWord (sensorRegister s x (u .field .offset)) (u .value) in
-    let e = both (eqb (u .field .offset) 5) (eqb high 0xE001) (u .is-update) in
-    rw (eqb-true high 0xE001 (e .1))
-    (update-fails s (x .setup) (u .field) (secondWord (u .value)) (contextOf w a) c (eqb-true (u .field .offset) 5 (e .0)) (u .mode-on)
+    let o = both (not (eqb s 0)) (eqb (u .field .offset) 5 && eqb high 0xE001) (u .is-update) in
+    let e = both (eqb (u .field .offset) 5) (eqb high 0xE001) (o .1) in
+    let n : s ≡ 0 → ⊥ = eqb-false s 0 (not-true (eqb s 0) (o .0)) in
+    rw (sensor-write (deviceIn d w a) x (u .field) (u .value) s (omega arith), eqb-true high 0xE001 (e .1))
+    (update-fails s (x .setup) (u .field) (secondWord (u .value)) (contextOf (deviceIn d w a)) c (eqb-true (u .field .offset) 5 (e .0)) (u .mode-on)
     (fails s (methodSet (x .setup)) c (u .candidate) (u .all-finite) (u .outside)))
 
 module _ (d : Sonde) (frame reply w : List ℕ) (a : Arrival) (s : ℕ) (c : Coefficients) (h : agrees d w ≡ true) (room : roomIn (a .ascii) ≤ length reply)
@@ -184,11 +187,15 @@ module _ (d : Sonde) (frame reply w : List ℕ) (a : Arrival) (s : ℕ) (c : Coe
   o = refusedWith frame reply w a 0x97 (withSetup d s (withTrial (setupAt d s) c))
 
   frame-leaves : frameOf d frame reply w a ≡ o
-  unfolding frameOf answerOf carriedOut writeBody
+  unfolding frameOf answerOf carriedOut sondeAfter writeBody withTechnician withSetup withSensor
   frame-leaves = rw (le-ltb (length reply) (roomIn (a .ascii)) room, h, u .asks, write-fails d frame w a s c u)
 
   sensor : IsSensor s
-  sensor = (rw (u .asks) at (frame-facts (d .address) (carriedIn (a .ascii) frame))) .located .is-sensor
+  unfolding isUpdate
+  sensor =
+      let l = (rw (u .asks) at (frame-facts (d .address) (carriedIn (a .ascii) frame))) .located in
+      let n : s ≡ 0 → ⊥ = eqb-false s 0 (not-true (eqb s 0) (both (not (eqb s 0)) _ (u .is-update) .0)) in
+      (omega arith, l .owner-most)
 
   candidate-shown : CandidateShown d frame reply w a s c o
   unfolding left setupAt sensorWithSetup

@@ -1,7 +1,7 @@
 -- What a frame does: number, sonde, reply and volume as one function of what goes in. Document 01, "Frames", in its order: numbers 3 and 4;
 -- bad; another's; a read at address 0; codes 1, 3, 2, 0x80 and 0xC2, which the plan has; then the field's write. Document 02, wish 1: a frame has
 -- one of two framings, and what it carries is all that is judged. Assumes nothing.
-use mathlib.Core.Bool.{Bool, _&&_, cond}
+use mathlib.Core.Bool.{Bool, _&&_, not, cond}
 use mathlib.Core.List.{List, []}
 use Prim.Native.Nat.{ℕ}
 use lib.Dec.{eqb, ltb}
@@ -16,22 +16,22 @@ use Rattle.modbus.specs.declared.Value.{Value}
 use Rattle.modbus.specs.declared.Value.the-variants.{Words, Mask}
 use Rattle.replies.specs.Reply.{writtenBody, exceptionBody, replyOf}
 use Rattle.fields.specs.declared.Field.{Field}
-use Rattle.journal.specs.Stores.{appendsOf, spareIn}
+use Rattle.journal.specs.Stores.{appendsOf}
 use Rattle.sensors.specs.declared.Sensor.{Sensor}
-use Rattle.registers.specs.Registers.{sensorRegister}
-use Rattle.commands.specs.Commands.{context, codeOf, setupAfter, entriesOf}
-use Rattle.commands.specs.declared.Context.{Context}
+use Rattle.registers.specs.Registers.{sensorRegister, registerOf}
+use Rattle.registers.specs.declared.Device.{Device}
+use Rattle.commands.specs.Commands.{contextOf, codeOf, setupAfter, technicianAfter, entriesOf}
 use Rattle.commands.specs.declared.Written.{Written}
-use Rattle.writes.specs.Writes.{writeOf}
+use Rattle.writes.specs.Writes.{writeTo}
 use Rattle.plans.specs.Plans.{planOf}
 use Rattle.plans.specs.declared.Plan.{Plan}
 use Rattle.plans.specs.declared.Plan.the-variants.{Bad, Foreign, BroadcastRead, Refused, Reading, Writing}
-use Rattle.state.specs.Sonde.{sensorAt, setupAt, withSetup, countedBy}
+use Rattle.state.specs.Sonde.{sensorAt, setupAt, withSetup, withTechnician, countedBy}
 use Rattle.state.specs.declared.Event.{Event}
 use Rattle.state.specs.declared.Event.the-variants.{Uncounted, Bad as CountedBad, Good, Exception}
 use Rattle.state.specs.declared.Sonde.{Sonde}
 use Rattle.service.specs.Agrees.{agrees}
-use Rattle.service.specs.Reads.{readingBody}
+use Rattle.service.specs.Reads.{deviceIn, readingBody}
 use Rattle.service.specs.declared.Arrival.{Arrival}
 use Rattle.service.specs.declared.SondeFrame.{SondeFrame}
 
@@ -80,25 +80,24 @@ writeBody h body code = cond (eqb code 0) (sent h (writtenBody (h .function) bod
 
 -- ---- writes
 
--- what an update takes from outside the setup
-abbrev pub contextOf : List ℕ → Arrival → Context
-contextOf w a = context (a .clock) (spareIn w)
-
--- the field's own write, by its sensor's values
-unfoldable pub writtenBy : ℕ → Sensor → Field → Value → Context → Written
-writtenBy s x f v c = writeOf s (x .setup) f (firstWord (sensorRegister s x (f .offset)) v) (secondWord v) c
+-- the field's own write, by its owner's values: the device's, e, or a sensor's, x
+unfoldable pub writtenBy : ℕ → Device → Sensor → Field → Value → Written
+writtenBy o e x f v = writeTo o (x .setup) f (firstWord (registerOf o e x (f .offset)) v) (secondWord v) (contextOf e)
 
 abbrev pub writeAt : Sonde → List ℕ → Arrival → ℕ → Field → Value → Written
-writeAt d w a s f v = writtenBy s (sensorAt d s) f v (contextOf w a)
+writeAt d w a o f v = writtenBy o (deviceIn d w a) (sensorAt d o) f v
 
--- "writes 0xE001 to a command register" ("5 command"), by functions 6 and 16 or by a mask
+-- "writes 0xE001 to a command register" ("5 command") of a sensor, by functions 6 and 16 or by a mask
 unfoldable pub isUpdate : ℕ → Sensor → Field → Value → Bool
-isUpdate s x f v = eqb (f .offset) 5 && eqb (firstWord (sensorRegister s x (f .offset)) v) 0xE001
+isUpdate o x f v = not (eqb o 0) && (eqb (f .offset) 5 && eqb (firstWord (sensorRegister o x (f .offset)) v) 0xE001)
 
--- what is stored is the sensor's, what a refusal leaves of it too (`setupAfter`); an update also appends its entry
+-- what is stored is the owner's, the sensor's setup or the technician's number; what a refusal leaves too (`setupAfter`)
+unfoldable pub sondeAfter : Sonde → ℕ → Written → Sonde
+sondeAfter d o x = withTechnician (withSetup d o (setupAfter (setupAt d o) x)) (technicianAfter (d .technician) x)
+
+-- an update also appends its entry
 unfoldable pub carriedOut : Sonde → Header → List ℕ → List ℕ → ℕ → Written → Answer
-carriedOut d h body w s x =
-    answer (eventOf (codeOf x)) (writeBody h body (codeOf x)) (withSetup d s (setupAfter (setupAt d s) x)) (appendsOf w (entriesOf x))
+carriedOut d h body w o x = answer (eventOf (codeOf x)) (writeBody h body (codeOf x)) (sondeAfter d o x) (appendsOf w (entriesOf x))
 
 -- ---- the frame
 
@@ -109,7 +108,7 @@ planned d h body w a Foreign = answer Uncounted [] d w
 planned d h body w a BroadcastRead = answer Good [] d w
 planned d h body w a (Refused code) = answer Exception (refusalBody h code) d w
 planned d h body w a (Reading start count) = answer Good (readingBody d w a start count) d w
-planned d h body w a (Writing s f v) = carriedOut d h body w s (writeAt d w a s f v)
+planned d h body w a (Writing o f v) = carriedOut d h body w o (writeAt d w a o f v)
 
 -- the code that refuses what a frame asks; 0 for none
 abbrev pub codeBy : Sonde → List ℕ → Arrival → Plan → ℕ
@@ -118,7 +117,7 @@ codeBy d w a Foreign = 0
 codeBy d w a BroadcastRead = 0
 codeBy d w a (Refused code) = code
 codeBy d w a (Reading start count) = 0
-codeBy d w a (Writing s f v) = codeOf (writeAt d w a s f v)
+codeBy d w a (Writing o f v) = codeOf (writeAt d w a o f v)
 
 -- by what a frame carries
 unfoldable pub answerOf : Sonde → Carried → List ℕ → Arrival → Answer

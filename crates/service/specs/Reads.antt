@@ -11,9 +11,10 @@ use Rattle.state.specs.declared.Counters.{Counters}
 use Rattle.state.specs.declared.Sonde.{Sonde}
 use Rattle.service.specs.declared.Arrival.{Arrival}
 
--- the device's values: "a reply shows counters from before its frame"; the clock is the frame's, capacity and entries in use the volume's
-unfoldable pub deviceOf : Counters → List ℕ → Arrival → Device
-deviceOf c w a =
+-- the device's values: "a reply shows counters from before its frame"; the clock is the frame's, capacity and entries in use the volume's, the
+-- technician's number n the sonde's
+unfoldable pub deviceOf : Counters → ℕ → List ℕ → Arrival → Device
+deviceOf c n w a =
     record {
       clock = a .clock;
       good = c .good;
@@ -21,7 +22,11 @@ deviceOf c w a =
       exceptions = c .exceptions;
       capacity = capacityOf (length w);
       used = getD w 2 0;
+      technician = n;
     }
+
+abbrev pub deviceIn : Sonde → List ℕ → Arrival → Device
+deviceIn d w a = deviceOf (d .counters) (d .technician) w a
 
 -- "Sensor s begins at 100 × s": what register r shows
 unfoldable pub registerAt : Sonde → Device → ℕ → ℕ
@@ -34,4 +39,4 @@ shownFrom f r (suc n) = f r ∷ shownFrom f (suc r) n
 
 -- the body of the reply to a read
 unfoldable pub readingBody : Sonde → List ℕ → Arrival → ℕ → ℕ → List ℕ
-readingBody d w a start count = readBody (d .address) (shownFrom (registerAt d (deviceOf (d .counters) w a)) start count)
+readingBody d w a start count = readBody (d .address) (shownFrom (registerAt d (deviceIn d w a)) start count)

@@ -36,7 +36,7 @@ refusedLeaves d Foreign = d
 refusedLeaves d BroadcastRead = d
 refusedLeaves d (Refused code) = d
 refusedLeaves d (Reading start count) = d
-refusedLeaves d (Writing s f v) = cond (isUpdate s (sensorAt d s) f v) (withSetup d s (refusedUpdate s (setupAt d s))) d
+refusedLeaves d (Writing o f v) = cond (isUpdate o (sensorAt d o) f v) (withSetup d o (refusedUpdate o (setupAt d o))) d
 
 -- what the call of a frame that a code refuses leaves, d being the sonde before the exception is counted: number 0, the exception reply (none at
 -- address 0), and the volume as it was

@@ -1,4 +1,5 @@
--- What the frame call leaves, put together from what it was served with: the counters, and the sensor that the frame names. Assumes nothing.
+-- What the frame call leaves, put together from what it was served with: the counters, and the sensor that the frame names
+-- or the technician's number. Assumes nothing.
 use mathlib.Core.Path.{_≡_, refl, sym, ap, subst, _∙_}
 use mathlib.Core.Bool.{Bool, true, false, cond}
 use mathlib.Core.List.{List}
@@ -15,17 +16,18 @@ use Rattle.modbus.specs.Request.{headerOf}
 use Rattle.sensors.specs.Changes.{sensorWithSetup}
 use Rattle.sensors.specs.declared.Setup.{Setup}
 use Rattle.sensors.specs.declared.Sensor.{Sensor}
-use Rattle.state.specs.Sonde.{sonde, counted, countedBy, sensorAt, withSensor, withSetup}
+use Rattle.state.specs.Sonde.{sonde, counted, countedBy, sensorAt, withSensor, withSetup, withTechnician}
 use Rattle.state.specs.declared.Counters.{Counters}
 use Rattle.state.specs.declared.Sonde.{Sonde}
 use Rattle.service.specs.Agrees.{agrees}
+use Rattle.service.specs.Reads.{deviceIn}
 use Rattle.replies.specs.Reply.{replyOf}
 use Rattle.service.specs.Frame.{Answer, planFor, answerOf, answerTo, Outcome, outcome, refusedBy, left, frameOf}
 use Rattle.service.specs.Framings.{AnswersBytes}
 use Rattle.service.specs.declared.Arrival.{Arrival}
 use Rattle.service.proofs.Parts.{frame-facts}
 use Rattle.execution.specs.Steps.{Step}
-use Rattle.execution.specs.declared.Change.the-variants.{Nothing, Setup as Changed}
+use Rattle.execution.specs.declared.Change.the-variants.{Nothing, Setup as Changed, Technician as Named}
 use Rattle.admission.specs.Steps.{numberBy, ownerOf}
 use Rattle.frames.specs.Steps.{stepFor, servedOf, changed}
 use Rattle.frames.specs.declared.Served.{Served}
@@ -71,7 +73,7 @@ module _ (d : Sonde) (frame reply w : List ℕ) (a : Arrival) (n : ℕ) (number 
   owner = ownerOf (planFor (d .address) x)
 
   abbrev step : Step
-  step = stepFor (d .address) (d .counters) (sensorAt d owner) x w a
+  step = stepFor (d .address) (deviceIn d w a) (sensorAt d owner) x w
 
   -- the step is what the definition says
   step-left : outcome (record { number = n; length = length (replyOf (a .ascii) (step .body)); sonde = countedBy (step .event) (changed d owner (step .change)) })
@@ -82,7 +84,7 @@ module _ (d : Sonde) (frame reply w : List ℕ) (a : Arrival) (n : ℕ) (number 
       (ap (λ (y : Answer). left y (a .ascii) reply) (steps-left d (headerOf (bodyOf x)) (bodyOf x) w a (planFor (d .address) x) (frame-facts (d .address) x)))
 
   -- and its body is what is answered
-  pub step-bytes : (s : Sensor) → s ≡ sensorAt d owner → Bytes (stepFor (d .address) (d .counters) s x w a .body) → AnswersBytes d frame reply w a
+  pub step-bytes : (s : Sensor) → s ≡ sensorAt d owner → Bytes (stepFor (d .address) (deviceIn d w a) s x w .body) → AnswersBytes d frame reply w a
   unfolding stepFor answerOf
   step-bytes s named b h =
       rw (← carried)
@@ -90,11 +92,11 @@ module _ (d : Sonde) (frame reply w : List ℕ) (a : Arrival) (n : ℕ) (number 
       (steps-left d (headerOf (bodyOf x)) (bodyOf x) w a (planFor (d .address) x) (frame-facts (d .address) x)) (rw named at b))
 
   module _ (r : Served) (reply' w' : List ℕ) (c : Counters) (s : Sensor) (named : s ≡ sensorAt d owner)
-      (served : r ≡ servedOf (a .ascii) (stepFor (d .address) (d .counters) s x w a))
-      (sent : reply' ≡ overlay (replyOf (a .ascii) (stepFor (d .address) (d .counters) s x w a .body)) reply)
-      (words : w' ≡ stepFor (d .address) (d .counters) s x w a .volume) (count : c ≡ counted (r .event) (d .counters)) where
+      (served : r ≡ servedOf (a .ascii) (stepFor (d .address) (deviceIn d w a) s x w))
+      (sent : reply' ≡ overlay (replyOf (a .ascii) (stepFor (d .address) (deviceIn d w a) s x w .body)) reply)
+      (words : w' ≡ stepFor (d .address) (deviceIn d w a) s x w .volume) (count : c ≡ counted (r .event) (d .counters)) where
     -- a frame that changes the counters alone
-    pub nothing-left : r .change ≡ Nothing → outcome (record { number = n; length = r .length; sonde = sonde (d .address) (d .sensors) c }) reply' w' ≡ frameOf d frame reply w a
+    pub nothing-left : r .change ≡ Nothing → outcome (record { number = n; length = r .length; sonde = sonde (d .address) (d .technician) (d .sensors) c }) reply' w' ≡ frameOf d frame reply w a
     unfolding countedBy
     nothing-left e =
         let v : r ≡ servedOf (a .ascii) step = served ∙ rw named in
@@ -103,9 +105,17 @@ module _ (d : Sonde) (frame reply w : List ℕ) (a : Arrival) (n : ℕ) (number 
 
     -- one that stores a setup
     pub setup-left : (y : Setup) (t : Sensor) (i : ℕ) → r .change ≡ Changed y → t ≡ sensorWithSetup s y → i ≡ owner - 1
-        → outcome (record { number = n; length = r .length; sonde = sonde (d .address) (set (d .sensors) i t) c }) reply' w' ≡ frameOf d frame reply w a
+        → outcome (record { number = n; length = r .length; sonde = sonde (d .address) (d .technician) (set (d .sensors) i t) c }) reply' w' ≡ frameOf d frame reply w a
     unfolding countedBy withSetup withSensor
     setup-left y t i e f g =
         let v : r ≡ servedOf (a .ascii) step = served ∙ rw named in
         let h : step .change ≡ Changed y = sym (ap (λ (z : Served). z .change) v) ∙ e in
         rw (count, sent, words, f, g, named, v) (rw h at step-left)
+
+    -- one that stores the technician's number
+    pub technician-left : (m : ℕ) → r .change ≡ Named m → outcome (record { number = n; length = r .length; sonde = sonde (d .address) m (d .sensors) c }) reply' w' ≡ frameOf d frame reply w a
+    unfolding countedBy withTechnician
+    technician-left m e =
+        let v : r ≡ servedOf (a .ascii) step = served ∙ rw named in
+        let h : step .change ≡ Named m = sym (ap (λ (z : Served). z .change) v) ∙ e in
+        rw (count, sent, words, named, v) (rw h at step-left)

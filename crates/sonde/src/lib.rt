@@ -84,6 +84,7 @@ pub extern "C" fn sonde_frame(
         volume,
         sonde.address,
         counters,
+        sonde.technician,
         s,
         Arrival { clock, ascii },
     );
@@ -98,6 +99,7 @@ pub extern "C" fn sonde_frame(
             let t = s.with_setup(setup);
             sonde.sensors[i] = t;
         }
+        Change::Technician(n) => sonde.technician = n,
     }
     SondeFrame {
         number,

@@ -38,20 +38,22 @@ counted Exception c = counters (incremented (c .good)) (c .bad) (incremented (c 
 
 -- ---- the sonde
 
-abbrev pub sonde : ℕ → List Sensor → Counters → Sonde
-sonde address sensors c = record { address = address; sensors = sensors; counters = c }
+abbrev pub sonde : ℕ → ℕ → List Sensor → Counters → Sonde
+sonde address technician sensors c = record { address = address; technician = technician; sensors = sensors; counters = c }
 
--- "Fresh: modes off, figures, units and sentinels at their defaults, .. times and counters 0, never measured"
+-- "Fresh: modes off, figures, units and sentinels at their defaults, .. times and counters 0, never measured"; document 02, wish 3: the technician's
+-- number, "where 0 means not given"
 unfoldable pub freshSonde : ℕ → Sonde
-freshSonde address = sonde address (freshSensor 1 ∷ freshSensor 2 ∷ freshSensor 3 ∷ freshSensor 4 ∷ []) freshCounters
+freshSonde address = sonde address 0 (freshSensor 1 ∷ freshSensor 2 ∷ freshSensor 3 ∷ freshSensor 4 ∷ []) freshCounters
 
 -- "Power-up gives replayed figures and times, all else as fresh"
 unfoldable pub poweredSensor : ℕ → Calibration → Sensor
 poweredSensor s c = record { setup = poweredSetup s c; sample = freshSample }
 
+-- document 02, wish 3: "A power-up sets the register to 0"
 unfoldable pub poweredSonde : ℕ → Calibrations → Sonde
 poweredSonde address c =
-    sonde address
+    sonde address 0
     (poweredSensor 1 (c .sensor1) ∷ poweredSensor 2 (c .sensor2) ∷ poweredSensor 3 (c .sensor3) ∷ poweredSensor 4 (c .sensor4) ∷ [])
     freshCounters
 
@@ -85,17 +87,20 @@ unfoldable pub setupAt : Sonde → ℕ → Setup
 setupAt d s = sensorAt d s .setup
 
 unfoldable pub withSensor : Sonde → ℕ → Sensor → Sonde
-withSensor d s x = sonde (d .address) (set (d .sensors) (s - 1) x) (d .counters)
+withSensor d s x = sonde (d .address) (d .technician) (set (d .sensors) (s - 1) x) (d .counters)
 
 unfoldable pub withSetup : Sonde → ℕ → Setup → Sonde
 withSetup d s x = withSensor d s (sensorWithSetup (sensorAt d s) x)
+
+unfoldable pub withTechnician : Sonde → ℕ → Sonde
+withTechnician d n = sonde (d .address) n (d .sensors) (d .counters)
 
 -- "Measure stores the raws that it reads"
 unfoldable pub measuredAt : Sonde → ℕ → Bool → Float → Float → Sonde
 measuredAt d s present raw1 raw2 = withSensor d s (measuredSensor (sensorAt d s) s present raw1 raw2)
 
 unfoldable pub countedBy : Event → Sonde → Sonde
-countedBy e d = sonde (d .address) (d .sensors) (counted e (d .counters))
+countedBy e d = sonde (d .address) (d .technician) (d .sensors) (counted e (d .counters))
 
 -- ---- valid; document 01's term is sound
 

@@ -1,4 +1,4 @@
-// The state of a sonde: an address, four sensors and the message counters. It goes in and comes back by value.
+// The state of a sonde: an address, the technician's number, four sensors and the message counters. It goes in and comes back by value.
 ghost use mathlib.Core.Path.{_≡_};
 ghost use Rattle.journal.specs.Journal.{IsSensor};
 ghost use Rattle.state.specs.Sonde.{incremented, freshCounters, counted, freshSonde, poweredSensor, poweredSonde, addressValid, validSonde, measuredAt};
@@ -16,10 +16,11 @@ pub struct Counters {
     pub exceptions: u16,
 }
 
-// Sensor s is element s - 1.
+// Sensor s is element s - 1. The technician's number is any; 0 means not given.
 #[repr(C)]
 pub struct Sonde {
     pub address: u8,
+    pub technician: u16,
     pub sensors: [Sensor; 4],
     pub counters: Counters,
 }
@@ -102,6 +103,7 @@ impl Sonde {
     {
         Sonde {
             address,
+            technician: 0,
             sensors: [
                 Sensor::fresh(1),
                 Sensor::fresh(2),
@@ -118,6 +120,7 @@ impl Sonde {
     {
         Sonde {
             address,
+            technician: 0,
             sensors: [
                 powered_sensor(1, c.sensor1),
                 powered_sensor(2, c.sensor2),

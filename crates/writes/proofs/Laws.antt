@@ -206,8 +206,8 @@ module _ (sensor : ℕ) (s : Setup) (f : Field) (high low : ℕ) (context : Cont
           let points = s .procedure .points in
           entry _ refl r refl refl
           (λ h. let p = valid-procedure-parts sensor (s .procedure) (valid-setup-parts sensor s h .procedure-valid) in
-          accepted-valid sensor n trial points c (context .clock) (p .method-allowed) (p .points-finite) j)
-          (λ v. accepted-entry-fits sensor n trial points c (context .clock) (v .fits-procedure .fits-trial) (v .fits-procedure .fits-points) j)
+          accepted-valid sensor n trial points c (context .clock) (context .technician) (p .method-allowed) (p .points-finite) j)
+          (λ v. accepted-entry-fits sensor n trial points c (context .clock) (context .technician) (v .fits-procedure .fits-trial) (v .fits-procedure .fits-points) j)
 
   -- a refusal's code is 0x92, 0x84, 0x97 or 0xC0
   pub codes : (codeOf x ≡ 0 → ⊥) → Code (codeOf x)

@@ -63,7 +63,7 @@ pub data Outcome (sensor : ℕ) (s : Setup) (o high low : ℕ) (context : Contex
       → Outcome sensor s o high low context (Failed (withTrial s c))
   stored : {t : Setup} → Change sensor s o high low t → Outcome sensor s o high low context (Stored t)
   update : (c : Coefficients) → o ≡ 5 → high ≡ 0xE001 → s .procedure .calibrating ≡ true → context .spare ≡ true → judgedOf sensor (methodSet s) ≡ Accepted c
-      → Outcome sensor s o high low context (Updated (calibratedAt s c (context .clock)) (entryOf sensor (methodSet s) c (context .clock)))
+      → Outcome sensor s o high low context (Updated (calibratedAt s c (context .clock)) (entryOf sensor (methodSet s) c (context .clock) (context .technician)))
 
 module _ (sensor : ℕ) (s : Setup) (o high low : ℕ) (context : Context) where
   abbrev P : Written → Type 0

@@ -13,9 +13,9 @@ use Rattle.fields.specs.Fields.{fields, ownerBit, owns, fieldAt}
 use Rattle.fields.proofs.Computed.{other, given, every, below, at-number}
 use Rattle.fields.proofs.Registers.{owner-below, found-test, found-covered}
 
--- the fields of one word: the command, the method, and of a parameter the id and the units, parts 2 and 3
+-- the fields of one word: the command, the method, the technician's number, and of a parameter the id and the units, parts 2 and 3
 abbrev pub oneWord : ℕ → Bool
-oneWord o = cond (ltb o 30) (eqb o 5 || eqb o 6) (leb (parameterPart o) 3)
+oneWord o = cond (ltb o 30) (eqb o 5 || (eqb o 6 || eqb o 9)) (leb (parameterPart o) 3)
 
 -- the parts of a parameter that show no measurement
 abbrev pub settled : ℕ → Bool

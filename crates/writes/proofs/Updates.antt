@@ -19,11 +19,11 @@ use Rattle.entries.specs.declared.Entry.{Entry}
 use Rattle.fields.specs.declared.Field.{Field}
 use Rattle.sensors.specs.Changes.{withTrial, calibratedAt}
 use Rattle.sensors.specs.declared.Setup.{Setup}
-use Rattle.commands.specs.Commands.{context, codeOf, setupAfter, entriesOf, methodSet, judgedUpdate, updated, commanded, triedBy, refusedUpdate, acceptedBy, acceptedUpdate}
+use Rattle.commands.specs.Commands.{context, codeOf, setupAfter, technicianAfter, entriesOf, methodSet, judgedUpdate, updated, commanded, triedBy, refusedUpdate, acceptedBy, acceptedUpdate}
 use Rattle.writes.specs.Writes.{fieldWritten, writeOf}
 use Rattle.commands.specs.declared.Context.{Context}
 use Rattle.commands.specs.declared.Written.{Written}
-use Rattle.commands.specs.declared.Written.the-variants.{Refused, Failed, Stored, Updated}
+use Rattle.commands.specs.declared.Written.the-variants.{Refused, Failed, Stored, Updated, Technician}
 use Rattle.writes.proofs.Outcomes.{Outcome, refused, failed, stored, update, write-outcome}
 
 -- ---- what an update says
@@ -43,7 +43,8 @@ pub record Update (sensor : ℕ) (s : Setup) (f : Field) (high : ℕ) (context :
   pub replaced : replacedBy (s .active .calibration) e ≡ t .active .calibration
   pub sensor-is : e .sensor ≡ sensor
   pub points-are : e .points ≡ pointsOf (methodSet s)
-  pub entry-is : e ≡ entryOf sensor (methodSet s) (coefficientsOf (t .active .calibration)) (context .clock)
+  pub technician-is : e .technician ≡ context .technician
+  pub entry-is : e ≡ entryOf sensor (methodSet s) (coefficientsOf (t .active .calibration)) (context .clock) (context .technician)
 
 module _ (sensor : ℕ) (s : Setup) (f : Field) (high low : ℕ) (context : Context) (t : Setup) (e : Entry) where
   -- an accepted update says all that
@@ -52,7 +53,7 @@ module _ (sensor : ℕ) (s : Setup) (f : Field) (high low : ℕ) (context : Cont
   update-facts w = of (write-outcome sensor s f high low context) w
     where
       made : (c : Coefficients) → f .offset ≡ 5 → high ≡ 0xE001 → s .procedure .calibrating ≡ true → context .spare ≡ true → judgedOf sensor (methodSet s) ≡ Accepted c
-          → Update sensor s f high context (calibratedAt s c (context .clock)) (entryOf sensor (methodSet s) c (context .clock))
+          → Update sensor s f high context (calibratedAt s c (context .clock)) (entryOf sensor (methodSet s) c (context .clock) (context .technician))
       made c i u m r j =
           record {
             is-command = i;
@@ -68,6 +69,7 @@ module _ (sensor : ℕ) (s : Setup) (f : Field) (high low : ℕ) (context : Cont
             replaced = refl;
             sensor-is = refl;
             points-are = refl;
+            technician-is = refl;
             entry-is = refl;
           }
 
@@ -88,7 +90,7 @@ module _ (sensor : ℕ) (s : Setup) (f : Field) (high low : ℕ) (context : Cont
 -- an update in mode, of an accepted candidate and with room in the journal, is carried out
 pub update-accepted : (sensor : ℕ) (s : Setup) (f : Field) (low : ℕ) (context : Context) (c : Coefficients) → f .offset ≡ 5 → f .access ≡ 1
     → s .procedure .calibrating ≡ true → judgedOf sensor (methodSet s) ≡ Accepted c → context .spare ≡ true
-    → writeOf sensor s f 0xE001 low context ≡ Updated (calibratedAt s c (context .clock)) (entryOf sensor (methodSet s) c (context .clock))
+    → writeOf sensor s f 0xE001 low context ≡ Updated (calibratedAt s c (context .clock)) (entryOf sensor (methodSet s) c (context .clock) (context .technician))
 unfolding writeOf fieldWritten commanded updated
 update-accepted sensor s f low context c o a m j r = rw (a, o, m, j, r)
 
@@ -198,6 +200,15 @@ refused-journals (Refused code) n = refl
 refused-journals (Failed t) n = refl
 refused-journals (Stored t) n = absurd (n refl)
 refused-journals (Updated t e) n = absurd (n refl)
+refused-journals (Technician m) n = refl
+
+-- and leaves the technician's number
+pub refused-technician : (m : ℕ) (w : Written) → (codeOf w ≡ 0 → ⊥) → technicianAfter m w ≡ m
+refused-technician m (Refused code) n = refl
+refused-technician m (Failed t) n = refl
+refused-technician m (Stored t) n = refl
+refused-technician m (Updated t e) n = refl
+refused-technician m (Technician k) n = absurd (n refl)
 
 -- ---- the journal's room
 
@@ -210,9 +221,9 @@ choose-two : (b : Bool) (x y x' y' : Written) → BySpare x x' → BySpare y y' 
 choose-two true x y x' y' f g = f
 choose-two false x y x' y' f g = g
 
-by-spare : (sensor : ℕ) (s : Setup) (f : Field) (high low clock : ℕ) → BySpare (writeOf sensor s f high low (context clock true)) (writeOf sensor s f high low (context clock false))
+by-spare : (sensor : ℕ) (s : Setup) (f : Field) (high low clock technician : ℕ) → BySpare (writeOf sensor s f high low (context clock true technician)) (writeOf sensor s f high low (context clock false technician))
 unfolding writeOf fieldWritten commanded updated
-by-spare sensor s f high low clock =
+by-spare sensor s f high low clock technician =
     choose-two (eqb (f .access) 2 && not (s .procedure .calibrating)) _ _ _ _ equal
     (choose-two (eqb (f .offset) 3) _ _ _ _ equal
     (choose-two (eqb (f .offset) 5) _ _ _ _
@@ -220,25 +231,25 @@ by-spare sensor s f high low clock =
     (choose-two (eqb high 0xE001) _ _ _ _ (choose-two (s .procedure .calibrating) _ _ _ _ (judged (judgedOf sensor (methodSet s))) equal) equal))
     equal))
   where
-    judged : (v : Verdict) → BySpare (judgedUpdate sensor s (context clock true) v) (judgedUpdate sensor s (context clock false) v)
+    judged : (v : Verdict) → BySpare (judgedUpdate sensor s (context clock true technician) v) (judgedUpdate sensor s (context clock false technician) v)
     judged (Accepted c) = spent
     judged (OutsideLimits c) = equal
     judged NotFinite = equal
     judged Undefined = equal
 
 -- what is an update with room in the journal is 0xC0 without
-pub spare-needed : (sensor : ℕ) (s : Setup) (f : Field) (high low clock : ℕ) (t : Setup) (e : Entry) → writeOf sensor s f high low (context clock true) ≡ Updated t e
-    → writeOf sensor s f high low (context clock false) ≡ Refused 0xC0
-spare-needed sensor s f high low clock t e = of (by-spare sensor s f high low clock) (update-facts sensor s f high low (context clock false) t e)
+pub spare-needed : (sensor : ℕ) (s : Setup) (f : Field) (high low clock technician : ℕ) (t : Setup) (e : Entry) → writeOf sensor s f high low (context clock true technician) ≡ Updated t e
+    → writeOf sensor s f high low (context clock false technician) ≡ Refused 0xC0
+spare-needed sensor s f high low clock technician t e = of (by-spare sensor s f high low clock technician) (update-facts sensor s f high low (context clock false technician) t e)
   where
-    of : {x y : Written} → BySpare x y → (y ≡ Updated t e → Update sensor s f high (context clock false) t e) → x ≡ Updated t e → y ≡ Refused 0xC0
+    of : {x y : Written} → BySpare x y → (y ≡ Updated t e → Update sensor s f high (context clock false technician) t e) → x ≡ Updated t e → y ≡ Refused 0xC0
     of equal u w = let z : false ≡ true = u w .has-room in absurd (no z)
     of spent u w = refl
 
 -- any other write doesn't ask for room in the journal
-pub spare-else : (sensor : ℕ) (s : Setup) (f : Field) (high low clock : ℕ) → ((t : Setup) (e : Entry) → writeOf sensor s f high low (context clock true) ≡ Updated t e → ⊥)
-    → writeOf sensor s f high low (context clock false) ≡ writeOf sensor s f high low (context clock true)
-spare-else sensor s f high low clock = of (by-spare sensor s f high low clock)
+pub spare-else : (sensor : ℕ) (s : Setup) (f : Field) (high low clock technician : ℕ) → ((t : Setup) (e : Entry) → writeOf sensor s f high low (context clock true technician) ≡ Updated t e → ⊥)
+    → writeOf sensor s f high low (context clock false technician) ≡ writeOf sensor s f high low (context clock true technician)
+spare-else sensor s f high low clock technician = of (by-spare sensor s f high low clock technician)
   where
     of : {x y : Written} → BySpare x y → ((t : Setup) (e : Entry) → x ≡ Updated t e → ⊥) → y ≡ x
     of equal n = refl

@@ -1,6 +1,6 @@
--- What a write of one whole field that isn't read-only does to a sensor's setup. One definition for the frame call and for the control book.
--- Document 01, "Calibration", "Register map" and the codes of "What is sent back": 0x92, 0x84, 0x97, 0xC0 in that order; 0xC2 comes before
--- them, at `targetIn` of plans. Assumes nothing.
+-- What a write of one whole field that isn't read-only does to a sensor's setup, or to the device. One definition for the frame call and for the
+-- control book. Document 01, "Calibration", "Register map" and the codes of "What is sent back": 0x92, 0x84, 0x97, 0xC0 in that order; 0xC2 comes
+-- before them, at `targetIn` of plans. Document 02, wish 3. Assumes nothing.
 use mathlib.Core.Bool.{_&&_, not, cond}
 use Prim.Native.Nat.{ℕ}
 use lib.Dec.{eqb, leb, ltb}
@@ -22,7 +22,7 @@ use Rattle.sensors.specs.declared.Setup.{Setup}
 use Rattle.commands.specs.Commands.{commanded}
 use Rattle.commands.specs.declared.Context.{Context}
 use Rattle.commands.specs.declared.Written.{Written}
-use Rattle.commands.specs.declared.Written.the-variants.{Refused, Stored}
+use Rattle.commands.specs.declared.Written.the-variants.{Refused, Stored, Technician}
 
 -- ---- words
 
@@ -95,7 +95,7 @@ parameterWritten sensor s o high low =
     (cond (eqb (parameterPart o) 3) (unitsWritten sensor s (parameterNumber o) high)
     (cond (eqb (parameterPart o) 5) (floatWritten s o high low) (Refused 0x84)))
 
--- ---- the write
+-- ---- the write of a sensor's field
 
 -- the field at an offset, by the ranges of the map; high is the word, or the first of two, low the second. No writable field is outside the
 -- ranges: there 0x84 makes it total
@@ -112,3 +112,13 @@ fieldWritten sensor s o high low context =
 unfoldable pub writeOf : ℕ → Setup → Field → ℕ → ℕ → Context → Written
 writeOf sensor s field high low context =
     cond (eqb (field .access) 2 && not (s .procedure .calibrating)) (Refused 0x92) (fieldWritten sensor s (field .offset) high low context)
+
+-- ---- the write by its field's owner
+
+-- document 02, wish 3: "Device register 9 becomes writable, a number 0..65535": the device's one field that isn't read-only takes any word
+unfoldable pub deviceWritten : ℕ → Written
+deviceWritten high = Technician high
+
+-- the owner is 0 for the device, or a sensor's number
+unfoldable pub writeTo : ℕ → Setup → Field → ℕ → ℕ → Context → Written
+writeTo owner s field high low context = cond (eqb owner 0) (deviceWritten high) (writeOf owner s field high low context)

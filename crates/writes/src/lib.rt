@@ -1,7 +1,7 @@
-// What a write of one whole field does to a sensor's setup.
+// What a write of one whole field does: to a sensor's setup, or to the device.
 ghost use mathlib.Core.Path.{_≡_};
 ghost use Prim.Native.Nat.{_≤_};
-ghost use Rattle.writes.specs.Writes.{nextWritten, methodWritten, trialAt, pointAt, withSentinel, withFloat, floatWritten, levelWritten, unitsWritten, parameterWritten, fieldWritten, writeOf};
+ghost use Rattle.writes.specs.Writes.{nextWritten, methodWritten, trialAt, pointAt, withSentinel, withFloat, floatWritten, levelWritten, unitsWritten, parameterWritten, fieldWritten, writeOf, writeTo};
 use coefficients::Coefficients;
 use commands::Context;
 use commands::Written;
@@ -152,7 +152,7 @@ fn write_field(sensor: u16, s: Setup, offset: u16, high: u16, low: u16, context:
 }
 
 // The write of a sensor's field that isn't read-only, its value in one word (`high`) or in two.
-pub fn write(sensor: u16, s: Setup, field: Field, high: u16, low: u16, context: Context) -> Written
+fn write_sensor(sensor: u16, s: Setup, field: Field, high: u16, low: u16, context: Context) -> Written
     ensures { λ r. ⌜ r ≡ writeOf sensor s field high low context ⌝ }
 {
     let calibrating = s.procedure.calibrating;
@@ -160,4 +160,14 @@ pub fn write(sensor: u16, s: Setup, field: Field, high: u16, low: u16, context: 
         return Written::Refused(codes::SENSOR_MODE);
     }
     write_field(sensor, s, field.offset, high, low, context)
+}
+
+// The write of an owner's field that isn't read-only: the device's one is the technician's number, which any word is; else a sensor's.
+pub fn write(owner: u16, s: Setup, field: Field, high: u16, low: u16, context: Context) -> Written
+    ensures { λ r. ⌜ r ≡ writeTo owner s field high low context ⌝ }
+{
+    if owner == 0 {
+        return Written::Technician(high);
+    }
+    write_sensor(owner, s, field, high, low, context)
 }

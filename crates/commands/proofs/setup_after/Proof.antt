@@ -15,7 +15,10 @@ returns-3 c = simp (c .before .w2 .given .1)
 returns-4 : tie.Need-returns-4
 returns-4 c = simp (c .before .w3 .given .1)
 
+returns-5 : tie.Need-returns-5
+returns-5 c = simp (c .enum-told2 .given .1)
+
 pub setup-after-spec : {M : Type 1} → statement M
 setup-after-spec =
     tie.close
-    (tie.spec (λ c. search needs) (λ c. search needs) (λ c. search needs) (λ c. search needs) returns returns-2 returns-3 returns-4)
+    (tie.spec (λ c. search needs) (λ c. search needs) (λ c. search needs) (λ c. search needs) (λ c. search needs) returns returns-2 returns-3 returns-4 returns-5)

@@ -1,23 +1,34 @@
 -- Each arm of the plan is a step of the definition. Assumes nothing.
 use mathlib.Core.Path.{refl}
+use mathlib.Core.List.{List}
+use Prim.Native.Nat.{ℕ}
 use Rattle.words.specs.Overlay.{overlay}
+use Rattle.state.specs.declared.Counters.{Counters}
+use Rattle.service.specs.Reads.{deviceOf}
+use Rattle.service.specs.declared.Arrival.{Arrival}
+use Rattle.execution.specs.Steps.{Counts}
 use borrow.Author.Needs.{needs}
 use Rattle.frames.proofs.answer.Statement.{statement}
 use Rattle.frames.proofs.answer.Tie as tie
 
+-- the device's values count the volume's entries
+device-counts : (c : Counters) (n : ℕ) (w : List ℕ) (a : Arrival) → Counts (deviceOf c n w a) w
+unfolding deviceOf
+device-counts c n w a = record { capacity-is = refl; used-is = refl }
+
 read-requires : tie.Need-read-requires
 read-requires c κs =
-    let p = c .before .before .before in
+    let p = c .before .before .before .before in
     let x = p .before .before .before .before .before in
     let f = rw (p .plan2 .given .1) at (x .pre .3) in
     (search needs, f .most, f .block)
 
 write-requires : tie.Need-write-requires
 write-requires c κs =
-    let p = c .before .before .before in
+    let p = c .before .before .before .before .before in
     let x = p .before .before .before .before .before in
     let f = rw (p .plan3 .given .1) at (x .pre .3) in
-    (search needs, f .long, x .pre .1, f .located .is-sensor, search needs)
+    (search needs, f .long, x .pre .1, f .located .owner-most, search needs, rw (c .device2 .ensures) (device-counts _ _ _ _))
 
 returns : tie.Need-returns
 unfolding overlay
@@ -39,12 +50,14 @@ returns-4 c =
 returns-5 : tie.Need-returns-5
 returns-5 c =
     let r = c .before .before .before in
-    simp (c .counted5 .ensures, r .read .ensures .0, ← r .read .ensures .1, r .before .before .before .before .plan2 .given .1) (refl, (refl, refl))
+    let d = r .before in
+    simp (c .counted5 .ensures, r .read .ensures .0, ← r .read .ensures .1, ← d .device .ensures, d .before .before .before .before .plan2 .given .1) (refl, (refl, refl))
 
 returns-6 : tie.Need-returns-6
 returns-6 c =
     let w = c .before .before .before .before in
-    simp (w .before .before .before .before .plan3 .given .1) (w .write .ensures)
+    let d = w .before in
+    simp (d .before .before .before .before .before .plan3 .given .1, ← d .device2 .ensures) (w .write .ensures)
 
 pub answer-spec : {M : Type 1} → statement M
 answer-spec =
@@ -60,9 +73,11 @@ answer-spec =
     (λ c κs. search needs)
     (λ c κs. search needs)
     (λ c. search needs)
+    (λ c κs. search needs)
     read-requires
     (λ c κs. search needs)
     (λ c. search needs)
+    (λ c κs. search needs)
     write-requires
     returns
     returns-2

@@ -13,8 +13,8 @@ use Rattle.framing.proofs.Carried.{body-again}
 use Rattle.framing.proofs.Sealed.{room-least}
 use Rattle.plans.proofs.Plans.{Facts}
 use Rattle.sensors.specs.declared.Sensor.{Sensor}
-use Rattle.state.specs.declared.Counters.{Counters}
-use Rattle.service.specs.declared.Arrival.{Arrival}
+use Rattle.registers.specs.declared.Device.{Device}
+use Rattle.service.specs.Reads.{deviceOf}
 use Rattle.service.specs.Frame.{planFor}
 use Rattle.service.proofs.Parts.{frame-facts}
 use Rattle.modbus.specs.Request.{headerOf}
@@ -29,19 +29,19 @@ use Rattle.frames.proofs.serve.Statement.{statement}
 use Rattle.frames.proofs.serve.Tie as tie
 
 -- the step by the parts that were judged
-step-same : (own : ℕ) (c : Counters) (s : Sensor) (body w : List ℕ) (a : Arrival) (j : Judged) → j ≡ judgedOf own body
-    → stepOf own c s (j .header) body w a (j .plan) ≡ stepFor own c s (carriedBy body) w a
+step-same : (own : ℕ) (e : Device) (s : Sensor) (body w : List ℕ) (j : Judged) → j ≡ judgedOf own body
+    → stepOf own e s (j .header) body w (j .plan) ≡ stepFor own e s (carriedBy body) w
 unfolding stepFor
-step-same own c s body w a j e = rw (e, body-again body)
+step-same own e s body w j q = rw (q, body-again body)
 
 -- what the body asks for has the facts of its plan
 facts : (own : ℕ) (body : List ℕ) → Facts body (planFor own (carriedBy body))
 facts own body = rw (body-again body) at (frame-facts own (carriedBy body))
 
 -- the reply's body fits a frame
-for-short : (own : ℕ) (c : Counters) (s : Sensor) (body w : List ℕ) (a : Arrival) → length body ≤ 254 → length (stepFor own c s (carriedBy body) w a .body) ≤ 254
+for-short : (own : ℕ) (e : Device) (s : Sensor) (body w : List ℕ) → length body ≤ 254 → length (stepFor own e s (carriedBy body) w .body) ≤ 254
 unfolding stepFor
-for-short own c s body w a l = rw (body-again body) (step-short (headerOf body) body own c s w a (planFor own (carriedBy body)) (facts own body) l)
+for-short own e s body w l = rw (body-again body) (step-short (headerOf body) body own e s w (planFor own (carriedBy body)) (facts own body) l)
 
 -- bytes over the start of a buffer of bytes
 start-bytes : (buffer b : List ℕ) → Bytes (overlay b buffer) → Bytes b
@@ -58,8 +58,8 @@ seal-requires c κs =
     let s = c .before .before .before .before .before in
     let x = s .before .before .before .before .before .before in
     let a = x .args in
-    let e = s .answer .ensures .0 ∙ ap effectOf (step-same (a .own) (a .counters) (a .sensor) (a .body .now) (a .volume .now) (a .arrival) (a .judged) (x .pre .3)) in
-    (rw e (for-short (a .own) (a .counters) (a .sensor) (a .body .now) (a .volume .now) (a .arrival) (x .pre .1)), search needs)
+    let e = s .answer .ensures .0 ∙ ap effectOf (step-same (a .own) (deviceOf (a .counters) (a .technician) (a .volume .now) (a .arrival)) (a .sensor) (a .body .now) (a .volume .now) (a .judged) (x .pre .3)) in
+    (rw e (for-short (a .own) (deviceOf (a .counters) (a .technician) (a .volume .now) (a .arrival)) (a .sensor) (a .body .now) (a .volume .now) (x .pre .1)), search needs)
 
 returns : tie.Need-returns
 returns c =
@@ -67,8 +67,8 @@ returns c =
     let s = l .before .before .before .before .before .before in
     let x = s .before .before .before .before .before .before in
     let a = x .args in
-    let p = step-same (a .own) (a .counters) (a .sensor) (a .body .now) (a .volume .now) (a .arrival) (a .judged) (x .pre .3) in
-    let y = stepFor (a .own) (a .counters) (a .sensor) (carriedBy (a .body .now)) (a .volume .now) (a .arrival) in
+    let p = step-same (a .own) (deviceOf (a .counters) (a .technician) (a .volume .now) (a .arrival)) (a .sensor) (a .body .now) (a .volume .now) (a .judged) (x .pre .3) in
+    let y = stepFor (a .own) (deviceOf (a .counters) (a .technician) (a .volume .now) (a .arrival)) (a .sensor) (carriedBy (a .body .now)) (a .volume .now) in
     let e : s .answer .result ≡ effectOf y = s .answer .ensures .0 ∙ ap effectOf p in
     let r : s .answer .last .1 .0 ≡ overlay (y .body) (a .reply .now) = s .answer .ensures .1 .0 ∙ ap (λ (z : Step). overlay (z .body) (a .reply .now)) p in
     let w : s .answer .last .1 .1 .0 ≡ y .volume = s .answer .ensures .1 .1 ∙ ap (λ (z : Step). z .volume) p in

@@ -6,7 +6,7 @@ use native.Mathlib.Omega.{arith}
 use lib.ListN.{length, take, drop, replicate, length-append}
 use lib.Seq.{length-take-le, take-at}
 use Rattle.registers.specs.Registers.{registerOf}
-use Rattle.service.specs.Reads.{deviceOf, shownFrom}
+use Rattle.service.specs.Reads.{shownFrom}
 use borrow.Author.Needs.{needs}
 use Rattle.reads.proofs.read.Statement.{statement}
 use Rattle.reads.proofs.read.Tie as tie
@@ -27,27 +27,27 @@ slice-aggregate-fill c = sym (length-take-le _ _ (omega arith))
 
 fill-requires : tie.Need-fill-requires
 fill-requires c κs =
-    let a = c .before .before .before .before .args in
+    let a = c .before .before .args in
     rw (zeros-length (a .count) (omega arith)) (omega arith)
 
 array-share-prefix-words : tie.Need-array-share-prefix-words
 array-share-prefix-words c =
     let f = c .before .before in
-    let n = f .before .before .before .before .before .args .count in
+    let n = f .before .before .before .args .count in
     let e = f .fill .kept .0 ∙ zeros-length n (omega arith) in
     rw length-append (omega arith)
 
 slice-aggregate-put-read : tie.Need-slice-aggregate-put-read
 slice-aggregate-put-read c =
     let f = c .before .before .before in
-    let n = f .before .before .before .before .before .args .count in
+    let n = f .before .before .before .args .count in
     let h : n ≤ 125 = omega arith in
     sym (rw (filled n (f .fill .last .0) h (f .fill .kept .0)) (f .fill .kept .0 ∙ zeros-length n h))
 
 put-read-requires : tie.Need-put-read-requires
 put-read-requires c κs =
     let f = c .before .before .before in
-    let n = f .before .before .before .before .before .args .count in
+    let n = f .before .before .before .args .count in
     let h : n ≤ 125 = omega arith in
     let e = f .fill .kept .0 ∙ zeros-length n h in
     (search needs, rw (filled n (f .fill .last .0) h (f .fill .kept .0)) (omega arith))
@@ -56,11 +56,11 @@ returns : tie.Need-returns
 returns c =
     let p = c .before .before in
     let f = p .before .before .before .before in
-    let a = f .before .before .before .before .before .args in
+    let a = f .before .before .before .args in
     let n = a .count in
     let h : n ≤ 125 = omega arith in
-    let w : take n (f .fill .last .0 ++ drop n zeros) ≡ shownFrom (registerOf (a .start / 100) (deviceOf (a .counters) (a .volume .now) (a .arrival)) (a .sensor)) (a .start % 100) n
-    = filled n (f .fill .last .0) h (f .fill .kept .0) ∙ f .fill .ensures ∙ rw (zeros-length n h, f .before .device .ensures) in
+    let w : take n (f .fill .last .0 ++ drop n zeros) ≡ shownFrom (registerOf (a .start / 100) (a .device) (a .sensor)) (a .start % 100) n
+    = filled n (f .fill .last .0) h (f .fill .kept .0) ∙ f .fill .ensures ∙ rw (zeros-length n h) in
     (p .put-read .ensures .0 ∙ rw w, p .put-read .ensures .1 ∙ rw w)
 
 pub read-spec : {M : Type 1} → statement M
@@ -69,7 +69,6 @@ read-spec =
     (tie.spec
     (λ c. search needs)
     slice-aggregate-fill
-    (λ c κs. search needs)
     fill-requires
     array-share-prefix-words
     slice-aggregate-put-read
