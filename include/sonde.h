@@ -103,8 +103,12 @@ typedef struct { SondeSetup setup; SondeSample sample; } SondeSensor;
 
 typedef struct { uint16_t good, bad, exceptions; } SondeCounters;
 
-/* Sensors 1 conductivity, 2 dissolved oxygen, 3 level and 4 chlorophyll-a are elements 0 to 3. */
-typedef struct { uint8_t address; SondeSensor sensors[4]; SondeCounters counters; } Sonde;
+typedef struct {
+    uint8_t address;
+    uint16_t technician;     /* the technician's number, register 9; 0 not given. Any value is valid; fresh and power-up make it 0 */
+    SondeSensor sensors[4];  /* elements 0 to 3 are sensors 1 conductivity, 2 dissolved oxygen, 3 level and 4 chlorophyll-a */
+    SondeCounters counters;
+} Sonde;
 
 /* ---- what calls hand back ---- */
 
@@ -125,8 +129,8 @@ SondeMade sonde_fresh(uint8_t address);
 SondeMade sonde_begin(Sonde sonde, uint16_t *volume, size_t words);
 
 /*
- * The sonde after a power cut: the calibrations that the volume's journal gives, all else as fresh. Refused by 1, then 4 (the volume alone is
- * looked at); the sonde is then the fresh one of address 1 and doesn't count as made: a host that has a sonde goes on with it.
+ * The sonde after a power cut: the calibrations that the volume's journal gives, all else as fresh, with the technician's number 0. Refused by 1, then
+ * 4 (the volume alone is looked at); the sonde is then the fresh one of address 1 and doesn't count as made: a host that has a sonde goes on with it.
  */
 SondeMade sonde_power_up(uint8_t address, const uint16_t *volume, size_t words);
 
@@ -139,8 +143,9 @@ SondeMade sonde_measure(Sonde sonde, uint8_t sensor, bool present, float raw1, f
 /*
  * One Modbus frame, whole, at this clock (whole seconds). The reply has the framing of its request; `length` bytes of the reply buffer are to be
  * sent, 0 for none, and the bytes past them stay. The volume changes by an accepted calibration alone: write it to safe storage before the reply
- * is sent. Refused by 3, then 4; the length is then 0, and sonde, reply and volume stay as they were. A frame that is answered by an exception
- * changes the sonde's counters and nothing else, but for an update that is refused for its limits alone (0x97): its candidate becomes the trial.
+ * is sent. The entry of a calibration carries the technician's number that the sonde has at its update. Refused by 3, then 4; the length is then 0,
+ * and sonde, reply and volume stay as they were. A frame that is answered by an exception changes the sonde's counters and nothing else, but for an
+ * update that is refused for its limits alone (0x97): its candidate becomes the trial.
  *
  * `ascii` says which framing the frame has, and by that how long the reply buffer has to be, whatever the frame holds. The host cuts frames:
  *     RTU     (false) by silence; up to 256 bytes, the CRC-16 among them
