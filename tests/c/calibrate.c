@@ -1,7 +1,8 @@
 /*
  * A host in C, through include/sonde.h: begins a volume, calibrates sensor 2 over frames (two points), reads the calibration back, powers up
  * and audits, then does the same in ASCII, and in both framings side by side; then an update that fails for its limits alone, read back and
- * corrected. Each step is compared with the bytes and numbers that documents 01 and 02 give; the exit status is 1 where one differs.
+ * corrected; then technicians who give their numbers, and the entries that name them. Each step is compared with the bytes and numbers that
+ * documents 01 and 02 give; the exit status is 1 where one differs.
  */
 #include <stdio.h>
 #include <string.h>
@@ -213,7 +214,7 @@ static bool same_sensor(const SondeSensor *a, const SondeSensor *b) {
 }
 
 static bool same_sonde(const Sonde *a, const Sonde *b) {
-    bool same = SAME(address) && SAME(counters);
+    bool same = SAME(address) && SAME(technician) && SAME(counters);
     for (int i = 0; i < 4; i++) same = same && same_sensor(&a->sensors[i], &b->sensors[i]);
     return same;
 }
@@ -224,6 +225,7 @@ static void in_both_framings(void) {
     static const struct { uint8_t length, bytes[13]; } bodies[] = {
         {6, {17, 6, 0, 205, 0xE0, 0x00}},
         {6, {17, 6, 0, 206, 0, 2}},
+        {9, {17, 16, 0, 9, 0, 1, 2, 0x12, 0x67}},
         {11, {17, 16, 0, 216, 0, 2, 4, 0x41, 0, 0, 0}},
         {6, {17, 6, 0, 205, 0xE0, 0x01}}, /* y1 = 0 makes a slope of 0: out of limits */
         {11, {17, 16, 0, 218, 0, 2, 4, 0x41, 0x10, 0, 0}},
@@ -253,6 +255,7 @@ static void in_both_framings(void) {
         check(same_sonde(&rtu, &ascii) && memcmp(volume, other, sizeof volume) == 0, "both framings: one sonde and one volume");
     }
     check(sonde_audit(ascii, other, WORDS).entries == 2, "both framings: 2 entries");
+    check(volume[64 + 3] == 0x1267 && volume[88 + 3] == 0x1267, "both framings: technician 0x1267 in both entries");
 }
 
 /* The slope 1.25 of the points (8, 10) and (0, 0) is outside the limits: it is shown, and nothing else changes. With y1 = 9 it is accepted. */
@@ -288,10 +291,75 @@ static void failed_update(void) {
     check(sonde_audit(s, volume, WORDS).entries == 1, "failed update: 1 entry");
 }
 
+/* Sends a body to address 0, which gets no reply. */
+static Sonde tell(Sonde sonde, const uint8_t *body, size_t n, const char *what) {
+    uint8_t frame[256];
+    memcpy(frame, body, n);
+    memset(reply, 0xAA, sizeof reply);
+    SondeFrame f = sonde_frame(sonde, frame, sealed(frame, n), reply, SONDE_REPLY_BYTES, volume, WORDS, 0x12345678, false);
+    check(f.number == SONDE_OK && f.length == 0 && rest_stays(0), what);
+    return f.sonde;
+}
+
+/* The ways to register 9, and what isn't one. */
+static Sonde gives_number(Sonde s) {
+    s = ask(s, BYTES(17, 3, 0, 9, 0, 1), BYTES(17, 3, 2, 0, 0), "technician: not given on a fresh sonde");
+    s = ask(s, BYTES(17, 6, 0, 9, 0xFF, 0xFF), BYTES(17, 6, 0, 9, 0xFF, 0xFF), "technician: 65535 by function 6");
+    s = ask(s, BYTES(17, 16, 0, 9, 0, 1, 2, 0x12, 0x67), BYTES(17, 16, 0, 9, 0, 1), "technician: 0x1267 by function 16");
+    s = ask(s, BYTES(17, 22, 0, 9, 0x00, 0xFF, 0x34, 0x12), BYTES(17, 22, 0, 9, 0x00, 0xFF, 0x34, 0x12), "technician: 0x3467 by a mask");
+    s = ask(s, BYTES(17, 3, 0, 7, 0, 3), BYTES(17, 3, 6, 0, 3, 0, 0, 0x34, 0x67), "technician: read behind capacity and entries in use");
+    s = tell(s, BYTES(0, 6, 0, 9, 0, 7), "technician: 7 at address 0");
+    check(s.technician == 7, "technician: 7 in the sonde");
+
+    Sonde due = s;
+    due.counters.good += 5;
+    due.counters.exceptions += 5;
+    s = ask(s, BYTES(17, 16, 0, 8, 0, 2, 4, 0, 1, 0, 1), BYTES(17, 0x90, 0x80), "technician: with the entries in use: code 0x80");
+    s = ask(s, BYTES(17, 16, 0, 9, 0, 2, 4, 0, 1, 0, 1), BYTES(17, 0x90, 2), "technician: with register 10: code 2");
+    s = ask(s, BYTES(17, 6, 0, 8, 0, 1), BYTES(17, 0x86, 0xC2), "technician: the entries in use alone: code 0xC2");
+    s = ask(s, BYTES(17, 6, 0, 10, 0, 1), BYTES(17, 0x86, 2), "technician: register 10: code 2");
+    s = ask(s, BYTES(17, 3, 0, 9, 0, 2), BYTES(17, 0x83, 2), "technician: a read with register 10: code 2");
+    check(same_sonde(&s, &due), "technician: refused frames change the counters alone");
+    return s;
+}
+
+/* An entry carries the number that stands at its update, whatever stood at 0xE000. */
+static void technicians(void) {
+    static uint16_t other[WORDS];
+    Sonde s = gives_number(begun(volume));
+    s = ask(s, BYTES(17, 6, 0, 105, 0xE0, 0x00), BYTES(17, 6, 0, 105, 0xE0, 0x00), "technician: mode on, sensor 1");
+    s = ask(s, BYTES(17, 6, 0, 9, 0, 8), BYTES(17, 6, 0, 9, 0, 8), "technician: 8 before the update");
+    s = ask(s, BYTES(17, 6, 0, 105, 0xE0, 0x01), BYTES(17, 6, 0, 105, 0xE0, 0x01), "technician: update");
+    check(volume[64 + 3] == 8, "technician: entry 1 names 8");
+    s = ask(s, BYTES(17, 6, 0, 9, 0xFF, 0xFF), BYTES(17, 6, 0, 9, 0xFF, 0xFF), "technician: 65535");
+    s = tell(s, BYTES(0, 6, 0, 105, 0xE0, 0x01), "technician: update at address 0");
+    check(volume[64 + 3] == 8 && volume[88 + 3] == 0xFFFF, "technician: entry 2 names 65535, entry 1 still 8");
+
+    /* A begin leaves the number, and a power-up makes it 0. */
+    SondeMade made = sonde_begin(s, other, WORDS);
+    check(made.number == SONDE_OK && made.sonde.technician == 0xFFFF, "technician: begin leaves the number");
+    made = sonde_power_up(17, volume, WORDS);
+    check(made.number == SONDE_OK && made.sonde.technician == 0, "technician: power-up makes it 0");
+    s = ask(made.sonde, BYTES(17, 3, 0, 9, 0, 1), BYTES(17, 3, 2, 0, 0), "technician: 0 in register 9");
+    s = ask(s, BYTES(17, 6, 0, 105, 0xE0, 0x00), BYTES(17, 6, 0, 105, 0xE0, 0x00), "technician: mode on again");
+    s = ask(s, BYTES(17, 6, 0, 105, 0xE0, 0x01), BYTES(17, 6, 0, 105, 0xE0, 0x01), "technician: update without a number");
+    check(volume[112 + 3] == 0, "technician: entry 3 names none");
+
+    /* Number 4 looks at neither. */
+    s.technician = 0xA5A5;
+    volume[64 + 3] ^= 0xFFFF;
+    SondeAudit audit = sonde_audit(s, volume, WORDS);
+    check(audit.number == SONDE_OK && audit.entries == 3, "technician: audit with any numbers: 0 and 3 entries");
+    check(sonde_power_up(17, volume, WORDS).number == SONDE_OK, "technician: power-up with any number in an entry");
+    volume[64 + 20] = 1;
+    check(sonde_power_up(17, volume, WORDS).number == SONDE_INVALID, "technician: word 20 of an entry has to be 0: number 4");
+}
+
 int main(void) {
     in_rtu();
     in_ascii();
     in_both_framings();
     failed_update();
+    technicians();
     return failed;
 }
