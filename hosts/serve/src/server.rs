@@ -10,6 +10,7 @@ use crate::sys;
 use crate::volume::VolumeFile;
 use serve_options::Options;
 use sonde::{Arrival, Framing, Sonde};
+use std::fmt::{self, Display};
 use std::fs::File;
 use std::io::Write;
 use std::time::SystemTime;
@@ -92,14 +93,19 @@ impl Server {
         let reply = self.sonde.frame(frame, buffer, &mut self.volume.words, arrival).map_err(refused)?;
         let journalled = self.volume.save()?;
         if self.verbose {
-            let entries = journalled
-                .then(|| self.sonde.audit(&self.volume.words))
-                .transpose()
-                .map_err(refused)?;
-            say(&log_line(arrival, frame, reply, entries));
+            let done = journalled.then(|| self.journalled()).transpose().map_err(refused)?;
+            say(&log_line(arrival, frame, reply, done));
         }
         self.tell_full(journalled, reply);
         Ok(reply)
+    }
+
+    /// Of a calibration that was accepted just now.
+    fn journalled(&self) -> Result<Journalled, sonde::Error> {
+        Ok(Journalled {
+            technician: self.volume.newest_technician(),
+            entries: self.sonde.audit(&self.volume.words)?,
+        })
     }
 
     /// Says what to do about a full journal: once when it becomes full, and once when an update is refused for it.
@@ -127,15 +133,34 @@ fn system_clock() -> u32 {
     since.as_secs().try_into().unwrap_or(u32::MAX)
 }
 
-/// What --verbose says of a frame; the entries in use, where it was an accepted calibration.
-fn log_line(arrival: Arrival, frame: &[u8], reply: &[u8], entries: Option<u16>) -> String {
+/// What --verbose says of an accepted calibration.
+struct Journalled {
+    /// 0: not given.
+    technician: u16,
+    /// In use, with this one.
+    entries: u16,
+}
+
+impl Display for Journalled {
+    fn fmt(&self, f: &mut fmt::Formatter) -> fmt::Result {
+        f.write_str("calibration journalled, technician ")?;
+        match self.technician {
+            0 => f.write_str("not given")?,
+            number => write!(f, "{number}")?,
+        }
+        write!(f, ", entries in use: {}", self.entries)
+    }
+}
+
+/// What --verbose says of a frame, and of what was journalled by it.
+fn log_line(arrival: Arrival, frame: &[u8], reply: &[u8], journalled: Option<Journalled>) -> String {
     let Arrival { clock, framing } = arrival;
     let answer = match (reply, exception(framing, reply)) {
         ([], _) => "no reply".to_string(),
         (_, Some(code)) => format!("< {} (exception 0x{code:02X})", shown(framing, reply)),
         _ => format!("< {}", shown(framing, reply)),
     };
-    let note = entries.map_or(String::new(), |n| format!(" (calibration journalled, entries in use: {n})"));
+    let note = journalled.map_or(String::new(), |done| format!(" ({done})"));
     format!("{} {clock} > {} {answer}{note}", date::utc(clock), shown(framing, frame))
 }
 
@@ -143,18 +168,27 @@ fn log_line(arrival: Arrival, frame: &[u8], reply: &[u8], entries: Option<u16>) 
 mod tests {
     use super::*;
 
+    fn third(technician: u16) -> Option<Journalled> {
+        Some(Journalled { technician, entries: 3 })
+    }
+
     #[test]
     fn a_line_for_each_frame() {
         let lines = [
             log_line(Arrival::rtu(7), &[1, 3, 0xAB], &[], None),
             log_line(Arrival::rtu(7), &[1, 0x44], &[1, 0xC4, 1, 0, 0], None),
-            log_line(Arrival::rtu(9), &[1, 6], &[1, 6], Some(3)),
+            log_line(Arrival::rtu(9), &[1, 6], &[1, 6], third(7)),
+            log_line(Arrival::rtu(9), &[1, 6], &[], third(65535)),
         ];
         assert_eq!(lines[0], "1970-01-01T00:00:07Z 7 > 01 03 AB no reply");
         assert_eq!(lines[1], "1970-01-01T00:00:07Z 7 > 01 44 < 01 C4 01 00 00 (exception 0x01)");
         assert_eq!(
             lines[2],
-            "1970-01-01T00:00:09Z 9 > 01 06 < 01 06 (calibration journalled, entries in use: 3)"
+            "1970-01-01T00:00:09Z 9 > 01 06 < 01 06 (calibration journalled, technician 7, entries in use: 3)"
+        );
+        assert_eq!(
+            lines[3],
+            "1970-01-01T00:00:09Z 9 > 01 06 no reply (calibration journalled, technician 65535, entries in use: 3)"
         );
     }
 
@@ -163,7 +197,7 @@ mod tests {
         let lines = [
             log_line(Arrival::ascii(7), b":01\x8A\n", &[], None),
             log_line(Arrival::ascii(7), b":010325000001D6\r\n", b":0183027A\r\n", None),
-            log_line(Arrival::ascii(9), b":01\r\n", b":0103830277\r\n", Some(3)),
+            log_line(Arrival::ascii(9), b":01\r\n", b":0103830277\r\n", third(0)),
         ];
         assert_eq!(lines[0], "1970-01-01T00:00:07Z 7 > :01\\x8a\\n no reply");
         assert_eq!(
@@ -172,7 +206,7 @@ mod tests {
         );
         assert_eq!(
             lines[2],
-            "1970-01-01T00:00:09Z 9 > :01\\r\\n < :0103830277\\r\\n (calibration journalled, entries in use: 3)"
+            "1970-01-01T00:00:09Z 9 > :01\\r\\n < :0103830277\\r\\n (calibration journalled, technician not given, entries in use: 3)"
         );
     }
 }

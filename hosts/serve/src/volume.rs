@@ -1,6 +1,6 @@
 //! The volume in its file: the words in order, each with its high byte first, and nothing else.
 
-use crate::fault;
+use crate::fault::{self, ENTRY_WORDS, HEADER_WORDS};
 use crate::files::{self, beside, left_over, open_itself, open_regular, read_most, resolved, Identity, Lock, Written};
 use crate::say;
 use sonde::{Sonde, LEAST_WORDS};
@@ -125,6 +125,12 @@ impl VolumeFile {
         self.words[2] == self.words[1]
     }
 
+    /// The technician whom the newest entry names: 0 where no number was given, or there is no entry.
+    pub fn newest_technician(&self) -> u16 {
+        let entries = self.words[HEADER_WORDS..].chunks_exact(ENTRY_WORDS);
+        entries.take(self.words[2].into()).last().map_or(0, |entry| entry[3])
+    }
+
     /// Writes the file if the words have changed, and hands back whether they had. They are on the disk when this returns. A file that isn't
     /// the one that was last read or written is left as it is.
     pub fn save(&mut self) -> Result<bool, String> {
@@ -208,7 +214,7 @@ fn refusal(error: sonde::Error, words: &[u16]) -> String {
 }
 
 fn begin(place: &Path, sonde: &Sonde, entries: usize) -> Result<Content, String> {
-    let mut words = vec![0; 64 + 24 * entries];
+    let mut words = vec![0; HEADER_WORDS + ENTRY_WORDS * entries];
     sonde.begin(&mut words).map_err(|e| e.to_string())?;
     let written = files::create(place, &to_bytes(&words)).map_err(|e| format!("it can't be begun: {e}"))?;
     let unsure = |e| format!("it is begun, but may not outlast a power cut: {e}");

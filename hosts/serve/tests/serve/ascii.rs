@@ -242,7 +242,7 @@ fn verbose_shows_frames_as_text() {
             r"> :010325000001D6\r\n < :0183027A\r\n (exception 0x02)",
             r"> :01\x80\n no reply",
             r"> :01060069E000B0\r\n < :01060069E000B0\r\n",
-            r"> :01060069E001AF\r\n < :01060069E001AF\r\n (calibration journalled, entries in use: 1)",
+            r"> :01060069E001AF\r\n < :01060069E001AF\r\n (calibration journalled, technician not given, entries in use: 1)",
         ]
     );
 }

@@ -264,6 +264,9 @@ fn verbose_says_what_was_done() {
     );
     assert_eq!(lines[1], "serve: 2026-01-01T00:00:00Z 1767225600 > 01 03 00 00 no reply");
     assert!(lines[2].ends_with("(exception 0x92)"), "{said}");
-    assert!(lines[4].ends_with("(calibration journalled, entries in use: 1)"), "{said}");
+    assert!(
+        lines[4].ends_with("(calibration journalled, technician not given, entries in use: 1)"),
+        "{said}"
+    );
     assert_eq!(lines.len(), 5);
 }

@@ -1,4 +1,4 @@
-//! The server as a process, driven over its line byte for byte. Expected bytes are worked out from document 01.
+//! The server as a process, driven over its line byte for byte. Expected bytes are worked out from documents 01 and 02.
 
 mod ascii;
 mod ascii_echo;
@@ -11,5 +11,6 @@ mod link;
 mod options;
 mod sensors;
 mod succession;
+mod technician;
 mod volume;
 mod worked;
