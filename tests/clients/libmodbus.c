@@ -104,7 +104,8 @@ static void floats(void) {
 }
 
 static void map(void) {
-    reads(0, WORDS(3, 1, 0x6955, 0xB900, 0, 0, 0, 3, 0), "device: version 3, id 1, clock 1767225600, counters 0, capacity 3, 0 entries");
+    reads(0, WORDS(3, 1, 0x6955, 0xB900, 0, 0, 0, 3, 0, 0),
+          "device: version 3, id 1, clock 1767225600, counters 0, capacity 3, 0 entries, no technician");
     reads(100, WORDS(1, 0, 0, 0, 0, 0, 0, 3), "sensor 1: 3 parameters");
     reads(200, WORDS(2, 0, 0, 0, 0, 0, 0, 1), "sensor 2: 1 parameter");
     reads(300, WORDS(3, 0, 0, 0, 0, 0), "sensor 3");
@@ -137,12 +138,14 @@ static void writing(void) {
     masks(333, 0xFFFC, 0x0003, "mask write of the pressure's units: (17 and 0xFFFC) or 3 = 19");
     reads(333, WORDS(19), "units of the pressure: 19");
     reads_floats(330, FLOATS(14.7f * 6.894757f), "pressure 14.7 × 6.894757 kPa");
+    writes(9, 7, "write technician 7");
+    reads(9, WORDS(7), "technician 7");
 }
 
 static void refusing(void) {
     uint16_t none[MODBUS_MAX_READ_REGISTERS];
     refused(modbus_read_input_registers(line, 0, 1, none), EMBXILFUN, "code 1, input registers: EMBXILFUN");
-    refused(modbus_read_registers(line, 9, 1, none), EMBXILADD, "code 2, register 9: EMBXILADD");
+    refused(modbus_read_registers(line, 10, 1, none), EMBXILADD, "code 2, register 10: EMBXILADD");
     refused(modbus_read_registers(line, 300, 8, none), EMBXILADD, "code 2, no method on sensor 3: EMBXILADD");
     refused(modbus_read_registers(line, 0, 0, none), EMBXILVAL, "code 3, no registers: EMBXILVAL");
     refused_by(0x80, 110, 0x3F80, "code 0x80, half of a float: EMBBADEXC");
@@ -174,7 +177,7 @@ static void calibration(void) {
 }
 
 static void powered_up(void) {
-    reads(0, WORDS(3, 1, 0x6957, 0x0A80, 0, 0, 0, 3, 1), "device: clock 1767312000, counters 0, capacity 3, 1 entry");
+    reads(0, WORDS(3, 1, 0x6957, 0x0A80, 0, 0, 0, 3, 1, 0), "device: clock 1767312000, counters 0, capacity 3, 1 entry, no technician");
     reads_floats(110, FLOATS(0, 1.25f), "sensor 1: coefficients 0, 1.25");
     reads(101, WORDS(0x6955, 0xB900, 0, 0, 0, 0), "last calibration 1767225600, next 0, mode off, method 0");
     reads_floats(138, FLOATS(1250), "conductivity 1250");
@@ -187,6 +190,9 @@ static void full(void) {
     writes_float(212, 1.125f, "slope 1.125");
     writes(205, 0xE001, "update");
     writes_float(210, -0.125f, "offset -0.125");
+    writes(9, 0xFF12, "write technician 0xFF12");
+    masks(9, 0xFF00, 0x00FF, "mask write of the technician: (0xFF12 and 0xFF00) or 0x00FF");
+    reads(9, WORDS(65535), "technician 65535");
     writes(205, 0xE001, "update");
     refused_by(0xC0, 205, 0xE001, "code 0xC0, the journal is full: EMBBADEXC");
     writes(205, 0xE002, "mode off");

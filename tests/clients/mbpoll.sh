@@ -55,7 +55,7 @@ parameter() { # register, value, 'id units quality', available units
 }
 
 map() {
-    reads 4 0 '3 1 26965 47360 0 0 0 3 0' 'device'
+    reads 4 0 '3 1 26965 47360 0 0 0 3 0 0' 'device'
     reads 4:int 2 1767225600 'clock'
     sensor 1 '1 0 0 0 0 0 0 3' '0 1'
     sensor 2 '2 0 0 0 0 0 0 1' '0 1'
@@ -79,11 +79,13 @@ writing() {
     reads 4:int 103 1800000000 'next calibration of sensor 1'
     writes 4:float 435 -999.5 'sentinel of the chlorophyll'
     reads 4:float 435 -999.5 'sentinel of the chlorophyll'
+    writes 4 9 7 'technician 7'
+    reads 4 9 7 'technician'
 }
 
 refusing() {
     refused 'Illegal function' 'code 1, input registers' -t 3 -r 0 "$device"
-    refused 'Illegal data address' 'code 2, register 9' -r 9 "$device"
+    refused 'Illegal data address' 'code 2, register 10' -r 10 "$device"
     refused 'Illegal data address' 'code 2, no method on sensor 3' -r 300 -c 8 "$device"
     refused "$other" 'code 0x80, half of a float' -r 110 "$device" 16256
     refused "$other" 'code 0xC2, the version of the map' -r 0 "$device" 4
@@ -114,7 +116,7 @@ calibration() {
 }
 
 powered_up() {
-    reads 4 0 '3 1 26967 2688 0 0 0 3 1' 'device'
+    reads 4 0 '3 1 26967 2688 0 0 0 3 1 0' 'device'
     reads 4:float 110 '0 1.25' 'sensor 1, coefficients'
     reads 4:int 101 '1767225600 0' 'last and next calibration'
     reads 4 105 '0 0' 'mode and method'
@@ -128,6 +130,8 @@ full() {
     writes 4:float 212 1.125 'slope 1.125'
     writes 4 205 0xE001 'update'
     writes 4:float 210 -0.125 'offset -0.125'
+    writes 4 9 65535 'technician 65535'
+    reads 4 9 65535 'technician'
     writes 4 205 0xE001 'update'
     refused "$other" 'code 0xC0, the journal is full' -r 205 "$device" 0xE001
     writes 4 205 0xE002 'mode off'

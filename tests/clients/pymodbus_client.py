@@ -85,7 +85,7 @@ class Client:
         self.reads(start + 7, [available], "available units")
 
     def map(self):
-        self.reads(0, [3, 1, 0x6955, 0xB900, 0, 0, 0, 3, 0], "device")
+        self.reads(0, [3, 1, 0x6955, 0xB900, 0, 0, 0, 3, 0, 0], "device")
         for sensor, parameters in ((1, 3), (2, 1), (4, 1)):
             start = 100 * sensor
             self.reads(start, [sensor, 0, 0, 0, 0, 0, 0, parameters], f"sensor {sensor}")
@@ -113,10 +113,12 @@ class Client:
         self.masks(333, 0xFFFC, 0x0003, "of the pressure's units: (17 and 0xFFFC) or 3")
         self.reads(333, [19], "units of the pressure")
         self.reads_floats(330, [f32(14.7) * f32(6.894757)], "pressure in kPa")
+        self.writes(9, 7, "technician 7")
+        self.reads(9, [7], "technician")
 
     def refusing(self):
         self.refused(1, "IllegalFunction", self.line.read_input_registers(0, 1, slave=ADDRESS), "input registers")
-        self.refused(2, "IllegalAddress", self.line.read_holding_registers(9, 1, slave=ADDRESS), "register 9")
+        self.refused(2, "IllegalAddress", self.line.read_holding_registers(10, 1, slave=ADDRESS), "register 10")
         self.refused(2, "IllegalAddress", self.line.read_holding_registers(300, 8, slave=ADDRESS), "no method on sensor 3")
         self.refused(3, "IllegalValue", self.line.read_holding_registers(0, 126, slave=ADDRESS), "126 registers")
         self.refuses(0x80, 110, 0x3F80, "half of a float")
@@ -146,7 +148,7 @@ class Client:
         self.reads(8, [1], "entries in use")
 
     def powered_up(self):
-        self.reads(0, [3, 1, 0x6957, 0x0A80, 0, 0, 0, 3, 1], "device")
+        self.reads(0, [3, 1, 0x6957, 0x0A80, 0, 0, 0, 3, 1, 0], "device")
         self.reads_floats(110, [0.0, 1.25], "sensor 1, coefficients")
         self.reads(101, [0x6955, 0xB900, 0, 0, 0, 0], "last and next calibration, mode, method")
         self.reads_floats(138, [1250.0], "conductivity")
@@ -158,6 +160,8 @@ class Client:
         self.writes_float(212, 1.125, "slope 1.125")
         self.writes(205, 0xE001, "update")
         self.writes_float(210, -0.125, "offset -0.125")
+        self.writes_words(9, [65535], "technician 65535")
+        self.reads(9, [65535], "technician")
         self.masks(205, 0x0000, 0xE001, "of the command: an update")
         self.refuses(0xC0, 205, 0xE001, "the journal is full")
         self.writes(205, 0xE002, "mode off")
