@@ -95,6 +95,7 @@ pub struct Counters {
 #[derive(Clone, Copy, Debug, Default, PartialEq)]
 pub struct Sonde {
     pub address: u8,
+    pub technician: u16,
     pub sensors: [Sensor; 4],
     pub counters: Counters,
 }

@@ -22,6 +22,33 @@
 //! # Ok::<(), sonde::Error>(())
 //! ```
 //!
+//! # Who calibrated
+//!
+//! A technician writes a number, 0 to 65535, to register 9, where 0 means not given. Each entry of the journal carries the number that stood
+//! when its calibration was accepted, in its word 3:
+//!
+//! ```
+//! use sonde::{Arrival, Sonde, ASCII_REPLY_BYTES};
+//!
+//! let mut volume = [0; 88];
+//! let mut sonde = Sonde::fresh(1)?;
+//! sonde.begin(&mut volume)?;
+//!
+//! // Technician 7 calibrates sensor 1 by the coefficients that it has: number, mode on, update.
+//! let mut buffer = [0; ASCII_REPLY_BYTES];
+//! for request in [":010600090007E9\r\n", ":01060069E000B0\r\n", ":01060069E001AF\r\n"] {
+//!     let reply = sonde.frame(request.as_bytes(), &mut buffer, &mut volume, Arrival::ascii(1000))?;
+//!     assert_eq!(reply, request.as_bytes());
+//! }
+//! assert_eq!(volume[64 + 3], 7);
+//!
+//! // After a power cut no number is given: register 9 reads 0.
+//! let mut after = Sonde::power_up(1, &volume)?;
+//! let reply = after.frame(b":010300090001F2\r\n", &mut buffer, &mut volume, Arrival::ascii(1001))?;
+//! assert_eq!(reply, b":0103020000FA\r\n");
+//! # Ok::<(), sonde::Error>(())
+//! ```
+//!
 //! # Linking
 //!
 //! The library is for x86-64. It is looked for in the folder that the environment variable `SONDE_LIB_DIR` names, by its path from the root
@@ -150,7 +177,7 @@ impl Arrival {
     }
 }
 
-/// One sonde: four sensors, their calibration and the message counters.
+/// One sonde: four sensors, their calibration, the technician's number and the message counters.
 #[derive(Clone, Debug)]
 pub struct Sonde(ffi::Sonde);
 
@@ -179,7 +206,7 @@ impl Sonde {
         done(made.number)
     }
 
-    /// The sonde after a power cut: the calibrations that the volume's journal gives, all else as fresh.
+    /// The sonde after a power cut: the calibrations that the volume's journal gives, all else as fresh, the technician's number too.
     ///
     /// ```
     /// use sonde::{Error, Sonde};

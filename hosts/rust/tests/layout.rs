@@ -156,7 +156,7 @@ fn of_bindings() -> Layout {
     of!("SondeSample", Sample: present raw1 raw2);
     of!("SondeSensor", Sensor: setup sample);
     of!("SondeCounters", Counters: good bad exceptions);
-    of!("Sonde", Sonde: address sensors counters);
+    of!("Sonde", Sonde: address technician sensors counters);
     of!("SondeMade", Made: number sonde);
     of!("SondeFrame", Frame: number length sonde);
     of!("SondeAudit", Audit: number entries);
@@ -167,6 +167,7 @@ fn of_bindings() -> Layout {
 fn the_header_has_the_librarys_layout() {
     let source = of_source();
     assert_eq!(source["Sonde"].0, 396);
+    assert_eq!(source["Sonde"].1[1], ("technician".to_string(), 2));
     assert_eq!(of_header(&source), source);
 }
 
@@ -227,6 +228,7 @@ fn words(value: u32) -> [u16; 2] {
 fn telling(calibrating: bool) -> ffi::Sonde {
     // SAFETY: a call by value alone.
     let mut sonde = unsafe { ffi::sonde_fresh(7) }.sonde;
+    sonde.technician = 14;
     sonde.counters = ffi::Counters {
         good: 11,
         bad: 12,
@@ -275,8 +277,9 @@ fn telling(calibrating: bool) -> ffi::Sonde {
 }
 
 #[test]
-fn counters_and_address_are_read_where_they_stand() {
+fn counters_technician_and_address_are_read_where_they_stand() {
     assert_eq!(registers(telling(false), 4, 3), [11, 12, 13]);
+    assert_eq!(registers(telling(false), 9, 1), [14]);
 }
 
 #[test]

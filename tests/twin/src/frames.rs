@@ -1,11 +1,12 @@
 //! The bodies of frames: how a request is judged, what a write does, and the replies. A reply is written as a body at the beginning of the
 //! reply buffer, and its function gives the body's length.
 
-use crate::calibration::{candidate, listed_method, within_limits, Coefficients, DIRECT, SENSORS};
+use crate::calibration::{candidate, listed_method, within_limits, Coefficients, DIRECT};
 use crate::floats::{all_finite, join, split};
-use crate::map::{locate, Access, Field, Place, ENTER, LEAVE, LEVEL_IDS, PARAMETERS, UPDATE};
+use crate::map::{locate, Access, Field, Owner, Place, ENTER, LEAVE, LEVEL_IDS, PARAMETERS, UPDATE};
 use crate::readings::reading;
-use crate::state::{Settings, Sonde};
+use crate::state::{SensorSettings, Settings, Sonde};
+use crate::volume::Entry;
 
 pub const BROADCAST: u8 = 0;
 
@@ -42,10 +43,7 @@ pub enum Verdict {
         start: u16,
         count: u16,
     },
-    Write {
-        sensor: usize,
-        change: Change,
-    },
+    Write(Change),
 }
 
 impl Verdict {
@@ -59,9 +57,20 @@ impl Verdict {
     }
 }
 
-/// What an accepted write does to its sensor's settings.
+/// What an accepted write does, by the owner of its field.
 #[derive(Clone, Copy, Debug)]
 pub enum Change {
+    /// The device has no other field that can be written.
+    Technician(u16),
+    Sensor {
+        sensor: usize,
+        change: SensorChange,
+    },
+}
+
+/// What an accepted write does to its sensor's settings.
+#[derive(Clone, Copy, Debug)]
+pub enum SensorChange {
     Set(Field, u32),
     Enter,
     Leave,
@@ -69,7 +78,7 @@ pub enum Change {
 }
 
 /// Judges a request by the settings as they are; `full` is whether the journal has no room.
-pub fn judge(address: u8, settings: &[Settings; SENSORS], full: bool, body: &[u8]) -> Verdict {
+pub fn judge(address: u8, settings: &Settings, full: bool, body: &[u8]) -> Verdict {
     let (to, function) = (body[0], body[1]);
     if to != BROADCAST && to != address {
         return Verdict::Foreign;
@@ -102,17 +111,16 @@ fn judge_read(body: &[u8]) -> Result<Verdict, u8> {
     Ok(Verdict::Read { start, count })
 }
 
-fn judge_write(settings: &[Settings; SENSORS], full: bool, body: &[u8]) -> Result<Verdict, u8> {
+fn judge_write(settings: &Settings, full: bool, body: &[u8]) -> Result<Verdict, u8> {
     let count = write_count(body)?;
     let place = writable(word(body, 2), count)?;
-    let sensor = place.sensor;
     let value = match body[1] {
         WRITE_ONE => u32::from(word(body, 4)),
-        MASK => u32::from(masked(settings[sensor].word(place.field), word(body, 4), word(body, 6))),
+        MASK => u32::from(masked(settings.word(place), word(body, 4), word(body, 6))),
         _ if count == 1 => u32::from(word(body, 7)),
         _ => join(word(body, 7), word(body, 9)),
     };
-    settings[sensor].admit(place, value, full)
+    settings.admit(place, value, full)
 }
 
 /// How many registers a write names, if its shape is right.
@@ -141,7 +149,7 @@ fn writable(start: u16, count: u16) -> Result<Place, u8> {
     if place.start != start || place.field.words() != count {
         return Err(NOT_ONE_FIELD);
     }
-    if place.field.access(place.sensor) == Access::ReadOnly {
+    if place.access() == Access::ReadOnly {
         return Err(READ_ONLY);
     }
     Ok(place)
@@ -152,6 +160,38 @@ fn masked(old: u16, and: u16, or: u16) -> u16 {
 }
 
 impl Settings {
+    /// What a read shows of a writable field of one word.
+    fn word(&self, place: Place) -> u16 {
+        match place.owner {
+            Owner::Device => self.technician,
+            Owner::Sensor(sensor) => self.sensors[sensor].word(place.field),
+        }
+    }
+
+    /// What becomes of a value written to a writable field. A technician may have any number.
+    fn admit(&self, place: Place, value: u32, full: bool) -> Result<Verdict, u8> {
+        match place.owner {
+            Owner::Device => Ok(Verdict::Write(Change::Technician(value as u16))),
+            Owner::Sensor(sensor) => self.sensors[sensor].admit(sensor, place, value, full),
+        }
+    }
+
+    /// Carries out an accepted write; gives the entry of an update.
+    fn apply(&mut self, change: Change, clock: u32) -> Option<Entry> {
+        match change {
+            Change::Technician(technician) => {
+                self.technician = technician;
+                None
+            }
+            Change::Sensor { sensor, change } => {
+                self.sensors[sensor].apply(change, clock);
+                matches!(change, SensorChange::Update(_)).then(|| Entry::of(sensor, self))
+            }
+        }
+    }
+}
+
+impl SensorSettings {
     /// What a read shows of a writable field.
     pub fn show(&self, field: Field) -> u32 {
         match field {
@@ -174,13 +214,12 @@ impl Settings {
         }
     }
 
-    /// What becomes of a value written to a writable field.
-    fn admit(&self, place: Place, value: u32, full: bool) -> Result<Verdict, u8> {
-        let sensor = place.sensor;
+    /// What becomes of a value written to a writable field of this sensor.
+    fn admit(&self, sensor: usize, place: Place, value: u32, full: bool) -> Result<Verdict, u8> {
         if place.field == Field::Command {
             return self.admit_command(sensor, value as u16, full);
         }
-        if place.field.access(sensor) == Access::Calibrating && !self.calibrating {
+        if place.access() == Access::Calibrating && !self.calibrating {
             return Err(NOT_CALIBRATING);
         }
         let word = value as u16;
@@ -191,14 +230,15 @@ impl Settings {
             Field::Id(_) => LEVEL_IDS.contains(&word),
             _ => f32::from_bits(value).is_finite(),
         };
-        let change = Change::Set(place.field, value);
-        listed.then_some(Verdict::Write { sensor, change }).ok_or(UNLISTED)
+        let change = SensorChange::Set(place.field, value);
+        let written = Verdict::Write(Change::Sensor { sensor, change });
+        listed.then_some(written).ok_or(UNLISTED)
     }
 
     fn admit_command(&self, sensor: usize, command: u16, full: bool) -> Result<Verdict, u8> {
         let change = match command {
-            ENTER => Change::Enter,
-            LEAVE => Change::Leave,
+            ENTER => SensorChange::Enter,
+            LEAVE => SensorChange::Leave,
             UPDATE if !self.calibrating => return Err(NOT_CALIBRATING),
             UPDATE => {
                 let candidate = candidate(self.method, &self.trial, &self.points);
@@ -206,22 +246,22 @@ impl Settings {
                     (false, _) if all_finite(&candidate) => return Ok(Verdict::OutOfLimits { sensor, candidate }),
                     (false, _) => return Err(OUT_OF_LIMITS),
                     (true, true) => return Err(JOURNAL_FULL),
-                    (true, false) => Change::Update(candidate),
+                    (true, false) => SensorChange::Update(candidate),
                 }
             }
             _ => return Err(UNLISTED),
         };
-        Ok(Verdict::Write { sensor, change })
+        Ok(Verdict::Write(Change::Sensor { sensor, change }))
     }
 
-    /// Carries out an accepted write.
-    fn apply(&mut self, change: Change, clock: u32) {
+    /// Carries out an accepted write to this sensor.
+    fn apply(&mut self, change: SensorChange, clock: u32) {
         match change {
-            Change::Set(field, value) => self.set(field, value),
-            Change::Enter if !self.calibrating => self.switch(true),
-            Change::Leave if self.calibrating => self.switch(false),
-            Change::Enter | Change::Leave => {}
-            Change::Update(candidate) => {
+            SensorChange::Set(field, value) => self.set(field, value),
+            SensorChange::Enter if !self.calibrating => self.switch(true),
+            SensorChange::Leave if self.calibrating => self.switch(false),
+            SensorChange::Enter | SensorChange::Leave => {}
+            SensorChange::Update(candidate) => {
                 self.active.coefficients = candidate;
                 self.active.time = clock;
                 self.trial = candidate;
@@ -250,15 +290,12 @@ impl Settings {
     }
 }
 
-/// What a request leaves of the settings; gives the sensor of an accepted update.
-pub fn carry_out(verdict: &Verdict, settings: &mut [Settings; SENSORS], clock: u32) -> Option<usize> {
+/// What a request leaves of the settings; gives the entry of an accepted update.
+pub fn carry_out(verdict: &Verdict, settings: &mut Settings, clock: u32) -> Option<Entry> {
     match *verdict {
-        Verdict::Write { sensor, change } => {
-            settings[sensor].apply(change, clock);
-            matches!(change, Change::Update(_)).then_some(sensor)
-        }
+        Verdict::Write(change) => settings.apply(change, clock),
         Verdict::OutOfLimits { sensor, candidate } => {
-            settings[sensor].trial = candidate;
+            settings.sensors[sensor].trial = candidate;
             None
         }
         Verdict::Foreign | Verdict::Ignored | Verdict::Refused(_) | Verdict::Read { .. } => None,
@@ -275,15 +312,15 @@ pub struct View<'a> {
 
 impl View<'_> {
     fn show(&self, place: Place) -> u32 {
-        let Sonde {
-            settings,
-            samples,
-            counters,
-            ..
-        } = self.sonde;
-        let sensor = place.sensor;
-        let read = |parameter| reading(sensor, parameter, &settings[sensor], &samples[sensor]);
-        match place.field {
+        match place.owner {
+            Owner::Device => self.show_device(place.field),
+            Owner::Sensor(sensor) => self.show_sensor(sensor, place),
+        }
+    }
+
+    fn show_device(&self, field: Field) -> u32 {
+        let Sonde { settings, counters, .. } = self.sonde;
+        match field {
             Field::Version => 3,
             Field::Device => 1,
             Field::Clock => self.clock,
@@ -292,14 +329,22 @@ impl View<'_> {
             Field::Exceptions => u32::from(counters.exceptions),
             Field::Capacity => self.capacity as u32,
             Field::InUse => self.in_use as u32,
+            _ => u32::from(settings.technician),
+        }
+    }
+
+    fn show_sensor(&self, sensor: usize, place: Place) -> u32 {
+        let settings = &self.sonde.settings.sensors[sensor];
+        let read = |parameter| reading(sensor, parameter, settings, &self.sonde.samples[sensor]);
+        match place.field {
             Field::Sensor => sensor as u32 + 1,
-            Field::Last => settings[sensor].active.time,
+            Field::Last => settings.active.time,
             Field::Parameters => PARAMETERS[sensor].len() as u32,
             Field::Value(i) => read(i).value.to_bits(),
             Field::Quality(i) => u32::from(read(i).quality),
             Field::Available(i) => u32::from(PARAMETERS[sensor][i].available),
-            Field::Id(i) if place.field.access(sensor) == Access::ReadOnly => u32::from(PARAMETERS[sensor][i].id),
-            field => settings[sensor].show(field),
+            Field::Id(i) if place.access() == Access::ReadOnly => u32::from(PARAMETERS[sensor][i].id),
+            field => settings.show(field),
         }
     }
 

@@ -73,6 +73,7 @@ pub enum Field {
     Exceptions,
     Capacity,
     InUse,
+    Technician,
     Sensor,
     Last,
     Next,
@@ -105,37 +106,50 @@ impl Field {
             _ => 1,
         }
     }
+}
 
-    pub fn access(self, sensor: usize) -> Access {
+/// Whose a field is.
+#[derive(Clone, Copy, Debug, PartialEq, Eq)]
+pub enum Owner {
+    Device,
+    Sensor(usize),
+}
+
+/// A field, whose it is, and where it begins.
+#[derive(Clone, Copy, Debug)]
+pub struct Place {
+    pub field: Field,
+    pub owner: Owner,
+    pub start: u16,
+}
+
+impl Place {
+    pub fn access(&self) -> Access {
         use Field::*;
-        match self {
-            Next | Command | Units(_) | Sentinel(_) => Access::Writable,
-            Id(parameter) if sensor == LEVEL && parameter == LEVEL_PARAMETER => Access::Writable,
+        match self.field {
+            Technician | Next | Command | Units(_) | Sentinel(_) => Access::Writable,
+            Id(LEVEL_PARAMETER) if self.owner == Owner::Sensor(LEVEL) => Access::Writable,
             Method | Coefficient(_) | Point(_) => Access::Calibrating,
             _ => Access::ReadOnly,
         }
     }
 }
 
-/// A field and where it begins. `sensor` means nothing for the device's fields.
-#[derive(Clone, Copy, Debug)]
-pub struct Place {
-    pub field: Field,
-    pub sensor: usize,
-    pub start: u16,
-}
-
 /// The field that holds a register; `None` where there is no register.
 pub fn locate(register: u16) -> Option<Place> {
     let (block, offset) = (usize::from(register / 100), register % 100);
-    let (field, part) = match block {
-        0 => device_field(offset)?,
-        1..=SENSORS => sensor_field(block - 1, offset)?,
+    let owner = match block {
+        0 => Owner::Device,
+        1..=SENSORS => Owner::Sensor(block - 1),
         _ => return None,
+    };
+    let (field, part) = match owner {
+        Owner::Device => device_field(offset)?,
+        Owner::Sensor(sensor) => sensor_field(sensor, offset)?,
     };
     Some(Place {
         field,
-        sensor: block.saturating_sub(1),
+        owner,
         start: register - part,
     })
 }
@@ -151,6 +165,7 @@ fn device_field(offset: u16) -> Option<(Field, u16)> {
         6 => (Field::Exceptions, 0),
         7 => (Field::Capacity, 0),
         8 => (Field::InUse, 0),
+        9 => (Field::Technician, 0),
         _ => return None,
     })
 }
@@ -194,10 +209,25 @@ mod tests {
     #[test]
     fn registers_of_the_paper() {
         let count = (0..=u16::MAX).filter(|&register| locate(register).is_some()).count();
-        assert_eq!(count, 9 + (8 + 4 + 8 + 24) + (8 + 4 + 8 + 8) + (7 + 6 + 16) + (8 + 4 + 8 + 8));
-        assert!(locate(0x2500).is_none());
+        assert_eq!(count, 10 + (8 + 4 + 8 + 24) + (8 + 4 + 8 + 8) + (7 + 6 + 16) + (8 + 4 + 8 + 8));
+        assert!(locate(0x2500).is_none() && locate(10).is_none());
         assert!(locate(306).is_none() && locate(316).is_none() && locate(114).is_none());
         assert_eq!(locate(315).unwrap().start, 314);
+    }
+
+    #[test]
+    fn the_technician_is_the_devices_one_writable_field() {
+        let device = (0..100).filter_map(locate);
+        let writable: Vec<u16> = device
+            .filter(|place| place.access() != Access::ReadOnly)
+            .map(|place| place.start)
+            .collect();
+        assert_eq!(writable, [9]);
+        let place = locate(9).unwrap();
+        assert_eq!(
+            (place.owner, place.access(), place.field.words()),
+            (Owner::Device, Access::Writable, 1)
+        );
     }
 
     #[test]

@@ -1,7 +1,7 @@
 //! The value and quality that a parameter shows.
 
 use crate::calibration::LEVEL;
-use crate::state::{Sample, Settings};
+use crate::state::{Sample, SensorSettings};
 
 pub const GOOD: u16 = 0;
 pub const NOT_FINITE: u16 = 3;
@@ -16,7 +16,7 @@ pub struct Reading {
     pub quality: u16,
 }
 
-pub fn reading(sensor: usize, parameter: usize, settings: &Settings, sample: &Sample) -> Reading {
+pub fn reading(sensor: usize, parameter: usize, settings: &SensorSettings, sample: &Sample) -> Reading {
     let sentinel = settings.sentinels[parameter];
     if !sample.present {
         return Reading {
@@ -39,7 +39,7 @@ pub fn reading(sensor: usize, parameter: usize, settings: &Settings, sample: &Sa
 }
 
 /// The parameter's value before the conversion to its unit, not finite where that of the parameter it is worked from isn't.
-fn quantity(sensor: usize, parameter: usize, settings: &Settings, sample: &Sample) -> f32 {
+fn quantity(sensor: usize, parameter: usize, settings: &SensorSettings, sample: &Sample) -> f32 {
     let [raw, temperature] = sample.raws;
     match (sensor, parameter) {
         (CONDUCTIVITY, 0) => temperature,
@@ -52,7 +52,7 @@ fn quantity(sensor: usize, parameter: usize, settings: &Settings, sample: &Sampl
 }
 
 /// Conductivity, oxygen or chlorophyll.
-fn corrected(settings: &Settings, raw: f32) -> f32 {
+fn corrected(settings: &SensorSettings, raw: f32) -> f32 {
     let [offset, slope, _] = settings.active.coefficients;
     if settings.calibrating {
         raw
@@ -72,12 +72,12 @@ fn resistivity(conductivity: f32) -> f32 {
     }
 }
 
-fn pressure(settings: &Settings, raw: f32) -> f32 {
+fn pressure(settings: &SensorSettings, raw: f32) -> f32 {
     raw - settings.active.coefficients[0]
 }
 
 /// A pressure that isn't finite makes the level so, by the formulas themselves.
-fn level(settings: &Settings, raw: f32) -> f32 {
+fn level(settings: &SensorSettings, raw: f32) -> f32 {
     let [_, reference, reference_pressure] = settings.active.coefficients;
     let pressure = pressure(settings, raw);
     match settings.level_id {
@@ -107,9 +107,10 @@ fn convert(value: f32, units: u16) -> f32 {
 #[cfg(test)]
 mod tests {
     use super::*;
+    use crate::state::Settings;
 
     fn conductivity(parameter: usize, raws: [f32; 2], calibrating: bool) -> Reading {
-        let mut settings = Settings::fresh(CONDUCTIVITY);
+        let mut settings = Settings::fresh().sensors[CONDUCTIVITY];
         settings.active.coefficients = [2.0, 4.0, 0.0];
         settings.units[0] = 2;
         settings.sentinels = [-1.0; 3];

@@ -6,7 +6,7 @@ use crate::map::{LEVEL_IDS, PARAMETERS, PARAMETERS_MOST};
 
 /// What frames write to a sensor, and what its calibrations decide.
 #[derive(Clone, Copy, Debug)]
-pub struct Settings {
+pub struct SensorSettings {
     pub calibrating: bool,
     pub active: Calibration,
     pub trial: Coefficients,
@@ -18,6 +18,14 @@ pub struct Settings {
     /// 0 for a parameter that the sensor lacks.
     pub units: [u16; PARAMETERS_MOST],
     pub sentinels: [f32; PARAMETERS_MOST],
+}
+
+/// What frames write, and what calibrations decide: the device's and each sensor's.
+#[derive(Clone, Copy, Debug)]
+pub struct Settings {
+    /// Who calibrates (document 02, wish 3): any number, and 0 means not given.
+    pub technician: u16,
+    pub sensors: [SensorSettings; SENSORS],
 }
 
 /// What measurements write to a sensor. A sensor that was never measured counts as not present.
@@ -37,7 +45,7 @@ pub struct Counters {
 #[derive(Clone, Copy, Debug)]
 pub struct Sonde {
     pub address: u8,
-    pub settings: [Settings; SENSORS],
+    pub settings: Settings,
     pub samples: [Sample; SENSORS],
     pub counters: Counters,
 }
@@ -46,14 +54,14 @@ pub fn valid_address(address: u8) -> bool {
     (1..=247).contains(&address)
 }
 
-impl Settings {
+impl SensorSettings {
     /// Settings as fresh, but for the calibration in force.
-    pub fn with(sensor: usize, active: Calibration) -> Settings {
+    fn with(sensor: usize, active: Calibration) -> SensorSettings {
         let mut units = [0; PARAMETERS_MOST];
         for (unit, parameter) in units.iter_mut().zip(PARAMETERS[sensor]) {
             *unit = parameter.units[0];
         }
-        Settings {
+        SensorSettings {
             calibrating: false,
             active,
             trial: active.coefficients,
@@ -64,16 +72,6 @@ impl Settings {
             units,
             sentinels: [0.0; PARAMETERS_MOST],
         }
-    }
-
-    pub fn fresh(sensor: usize) -> Settings {
-        Settings::with(
-            sensor,
-            Calibration {
-                coefficients: DEFAULTS[sensor],
-                time: 0,
-            },
-        )
     }
 
     /// Units and ids of parameters that the sensor lacks aren't looked at; every float is.
@@ -91,19 +89,41 @@ impl Settings {
     }
 }
 
+impl Settings {
+    /// Settings as fresh, but for the calibrations in force.
+    pub fn with(active: [Calibration; SENSORS]) -> Settings {
+        Settings {
+            technician: 0,
+            sensors: std::array::from_fn(|sensor| SensorSettings::with(sensor, active[sensor])),
+        }
+    }
+
+    pub fn fresh() -> Settings {
+        Settings::with(DEFAULTS.map(|coefficients| Calibration { coefficients, time: 0 }))
+    }
+
+    /// The calibrations in force.
+    pub fn active(&self) -> [Calibration; SENSORS] {
+        self.sensors.each_ref().map(|settings| settings.active)
+    }
+
+    /// Every technician is valid.
+    fn valid(&self) -> bool {
+        self.sensors.iter().enumerate().all(|(sensor, settings)| settings.valid(sensor))
+    }
+}
+
 impl Sonde {
     pub fn fresh(address: u8) -> Sonde {
         Sonde {
             address,
-            settings: std::array::from_fn(Settings::fresh),
+            settings: Settings::fresh(),
             samples: [Sample::default(); SENSORS],
             counters: Counters::default(),
         }
     }
 
     pub fn valid(&self) -> bool {
-        valid_address(self.address)
-            && self.settings.iter().enumerate().all(|(sensor, settings)| settings.valid(sensor))
-            && self.samples.iter().all(|sample| all_finite(&sample.raws))
+        valid_address(self.address) && self.settings.valid() && self.samples.iter().all(|sample| all_finite(&sample.raws))
     }
 }

@@ -22,7 +22,7 @@ pub struct Both {
 
 /// The runs of registers that the map has, as start and count.
 const RUNS: [(u16, u16); 17] = [
-    (0, 9),
+    (0, 10),
     (100, 8),
     (110, 4),
     (116, 8),

@@ -2,21 +2,22 @@
 
 use sonde::ffi;
 use twin::calibration::Calibration;
-use twin::state::{Counters, Sample, Settings, Sonde};
+use twin::state::{Counters, Sample, SensorSettings, Settings, Sonde};
 
 pub fn to_library(sonde: &Sonde) -> ffi::Sonde {
     let Counters { good, bad, exceptions } = sonde.counters;
     ffi::Sonde {
         address: sonde.address,
+        technician: sonde.settings.technician,
         sensors: std::array::from_fn(|i| ffi::Sensor {
-            setup: setup(&sonde.settings[i]),
+            setup: setup(&sonde.settings.sensors[i]),
             sample: sample(&sonde.samples[i]),
         }),
         counters: ffi::Counters { good, bad, exceptions },
     }
 }
 
-fn setup(settings: &Settings) -> ffi::Setup {
+fn setup(settings: &SensorSettings) -> ffi::Setup {
     let [coefficient1, coefficient2, coefficient3] = settings.active.coefficients;
     let [trial1, trial2, trial3] = settings.trial;
     let [x1, y1, x2, y2] = settings.points;
@@ -65,7 +66,10 @@ pub fn from_library(sonde: &ffi::Sonde) -> Sonde {
     let ffi::Counters { good, bad, exceptions } = sonde.counters;
     Sonde {
         address: sonde.address,
-        settings: std::array::from_fn(|i| settings(&sonde.sensors[i].setup)),
+        settings: Settings {
+            technician: sonde.technician,
+            sensors: std::array::from_fn(|i| settings(&sonde.sensors[i].setup)),
+        },
         samples: std::array::from_fn(|i| {
             let ffi::Sample { present, raw1, raw2 } = sonde.sensors[i].sample;
             Sample {
@@ -77,7 +81,7 @@ pub fn from_library(sonde: &ffi::Sonde) -> Sonde {
     }
 }
 
-fn settings(setup: &ffi::Setup) -> Settings {
+fn settings(setup: &ffi::Setup) -> SensorSettings {
     let ffi::Setup {
         procedure,
         active,
@@ -92,7 +96,7 @@ fn settings(setup: &ffi::Setup) -> Settings {
     let trial = procedure.trial;
     let ffi::Points { x1, y1, x2, y2 } = procedure.points;
     let each = [parameters.parameter1, parameters.parameter2, parameters.parameter3];
-    Settings {
+    SensorSettings {
         calibrating: procedure.calibrating,
         active: Calibration {
             coefficients: [coefficient1, coefficient2, coefficient3],
@@ -134,7 +138,7 @@ const SETTINGS_NAMES: [&str; SETTINGS] = [
     "sentinel 3",
 ];
 
-fn settings_bits(settings: &Settings) -> [u32; SETTINGS] {
+fn settings_bits(settings: &SensorSettings) -> [u32; SETTINGS] {
     let mut bits = [0; SETTINGS];
     bits[0] = u32::from(settings.calibrating);
     bits[1..4].copy_from_slice(&settings.active.coefficients.map(f32::to_bits));
@@ -150,8 +154,11 @@ fn settings_bits(settings: &Settings) -> [u32; SETTINGS] {
 }
 
 /// The first field of the settings that differs, with both values.
-pub fn settings_difference(left: &[Settings; 4], right: &[Settings; 4]) -> Option<String> {
-    let pairs = left.iter().zip(right).enumerate();
+pub fn settings_difference(left: &Settings, right: &Settings) -> Option<String> {
+    if left.technician != right.technician {
+        return Some(format!("technician: {} and {}", left.technician, right.technician));
+    }
+    let pairs = left.sensors.iter().zip(&right.sensors).enumerate();
     pairs
         .map(|(i, (l, r))| (i, settings_bits(l), settings_bits(r)))
         .find(|(_, l, r)| l != r)

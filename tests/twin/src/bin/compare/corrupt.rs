@@ -140,7 +140,7 @@ impl Corruption {
 pub fn corrupt_sonde(sonde: &mut Sonde, corruption: Corruption, random: &mut Random) {
     let sensor = if corruption == LevelId { LEVEL } else { random.below(4) };
     let wrong = values::not_finite(random);
-    let settings = &mut sonde.settings[sensor];
+    let settings = &mut sonde.settings.sensors[sensor];
     let parameters = PARAMETERS[sensor].len();
     match corruption {
         Address => sonde.address = random.pick(&[0, 248, 249, 255]),
@@ -162,7 +162,7 @@ pub fn corrupt_sonde(sonde: &mut Sonde, corruption: Corruption, random: &mut Ran
         ActiveBit => flip_float(&mut settings.active.coefficients[random.below(3)], random),
         ActiveTime => settings.active.time ^= 1 << random.below(32),
         SpareUnits if parameters < 3 => settings.units[random.between(parameters, 2)] = random.word(),
-        SpareLevelId => sonde.settings[random.pick(&[0, 1, 3])].level_id = random.word(),
+        SpareLevelId => sonde.settings.sensors[random.pick(&[0, 1, 3])].level_id = random.word(),
         Mode => settings.calibrating = !settings.calibrating,
         TrialThird => {
             settings.calibrating = true;
@@ -176,7 +176,7 @@ pub fn corrupt_sonde(sonde: &mut Sonde, corruption: Corruption, random: &mut Ran
             settings.trial = settings.active.coefficients;
             settings.trial[2] = random.pick(&[-0.0, 1.0, -1.0, f32::from_bits(1)]);
         }
-        _ => sonde.settings[LEVEL].units[2] = random.word(),
+        _ => sonde.settings.sensors[LEVEL].units[2] = random.word(),
     }
 }
 
@@ -315,7 +315,7 @@ fn corrupt_entry(entry: &mut [u16], in_use: usize, corruption: Corruption, rando
         EntryNext => relink(&mut entry[0], in_use, random),
         EntrySensor => entry[1] = random.pick(&[0, 1, 2, 3, 4, 5, 0x101, 65535].map(|sensor| if sensor == entry[1] { 0 } else { sensor })),
         EntryMethod => entry[2] = random.pick(&[1, 2, 3, 65535].map(|other| if other == method { 0 } else { other })),
-        EntryZero => change(&mut entry[random.pick(&[3, 20, 21, 22, 23])], random),
+        EntryZero => change(&mut entry[random.between(20, 23)], random),
         EntryTime => change(&mut entry[random.between(4, 5)], random),
         EntryCoefficient => change(&mut entry[random.between(6, 11)], random),
         EntryPoint => change(&mut entry[random.between(12, 19)], random),

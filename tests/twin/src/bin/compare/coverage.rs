@@ -9,11 +9,11 @@ use std::collections::BTreeMap;
 use std::num::FpCategory;
 use twin::calibration::{candidate, within_limits, Coefficients, DIRECT, LEVEL, LIMITS, ONE_POINT, TWO_POINTS};
 use twin::floats::{all_finite, join};
-use twin::frames::{judge, Change, Verdict, BROADCAST, JOURNAL_FULL, OUT_OF_LIMITS};
+use twin::frames::{judge, Change, SensorChange, Verdict, BROADCAST, JOURNAL_FULL, OUT_OF_LIMITS};
 use twin::framing::{Framing, Room};
 use twin::map::{locate, Field, LEVEL_IDS, LEVEL_PARAMETER, PARAMETERS};
 use twin::readings::{GOOD, NOT_FINITE};
-use twin::state::{Settings, Sonde};
+use twin::state::{SensorSettings, Sonde};
 use twin::volume::capacity;
 
 #[derive(Clone, Copy, Debug, PartialEq, Eq, PartialOrd, Ord)]
@@ -233,10 +233,10 @@ impl Coverage {
             Call::PowerUp { .. } if before.in_use > 0 => self.note(Item::PowerUpWithEntries),
             Call::Audit { .. } if answer.length > 0 => self.note(Item::AuditWithEntries),
             Call::Begin { .. } => {
-                if before.lent > 0 && before.sonde.settings.iter().any(|settings| settings.active.time != 0) {
+                if before.lent > 0 && before.sonde.settings.sensors.iter().any(|settings| settings.active.time != 0) {
                     self.note(Item::BeginAgain);
                 }
-                if before.sonde.settings.iter().any(|settings| settings.calibrating) {
+                if before.sonde.settings.sensors.iter().any(|settings| settings.calibrating) {
                     self.note(Item::BeginCalibrating);
                 }
             }
@@ -299,9 +299,13 @@ impl Coverage {
                 });
                 self.note_failed(before, sensor, candidate, capacity);
             }
-            Verdict::Write { sensor, change } => {
+            Verdict::Write(change) => {
                 self.note(accepted);
-                if let Change::Update(_) = change {
+                if let Change::Sensor {
+                    sensor,
+                    change: SensorChange::Update(_),
+                } = change
+                {
                     self.note(Item::UpdateBy {
                         framing,
                         function: body[1],
@@ -338,7 +342,7 @@ impl Coverage {
     }
 
     fn note_update(&mut self, before: &Before, sensor: usize, capacity: usize) {
-        let settings = &before.sonde.settings[sensor];
+        let settings = &before.sonde.settings.sensors[sensor];
         self.note(Item::Update {
             sensor,
             method: settings.method,
@@ -368,7 +372,7 @@ impl Coverage {
         match code {
             JOURNAL_FULL => self.note(Item::RefusedFull { capacity }),
             OUT_OF_LIMITS => {
-                let settings = &before.sonde.settings[command(body) / 100 - 1];
+                let settings = &before.sonde.settings.sensors[command(body) / 100 - 1];
                 let coefficients = candidate(settings.method, &settings.trial, &settings.points);
                 self.note_division(settings, coefficients);
             }
@@ -376,7 +380,7 @@ impl Coverage {
         }
     }
 
-    fn note_division(&mut self, settings: &Settings, coefficients: Coefficients) {
+    fn note_division(&mut self, settings: &SensorSettings, coefficients: Coefficients) {
         if let Some(division) = division(settings, coefficients) {
             self.note(Item::Division {
                 method: settings.method,
@@ -386,7 +390,7 @@ impl Coverage {
     }
 
     fn note_failed(&mut self, before: &Before, sensor: usize, coefficients: Coefficients, capacity: usize) {
-        let settings = &before.sonde.settings[sensor];
+        let settings = &before.sonde.settings.sensors[sensor];
         let method = settings.method;
         let full = before.in_use == capacity;
         self.note(Item::Failed { sensor, method, full });
@@ -505,7 +509,7 @@ fn class(value: f32) -> Written {
     }
 }
 
-fn division(settings: &Settings, coefficients: [f32; 3]) -> Option<Division> {
+fn division(settings: &SensorSettings, coefficients: [f32; 3]) -> Option<Division> {
     let [x1, _, x2, _] = settings.points;
     match settings.method {
         ONE_POINT if x1.to_bits() == 0 => Some(Division::ByPlusZero),
@@ -519,7 +523,7 @@ fn division(settings: &Settings, coefficients: [f32; 3]) -> Option<Division> {
 }
 
 /// Whether the trial is what the points that are set failed with, but for one coefficient; the first can't be the one in force.
-fn corrected(sensor: usize, settings: &Settings) -> bool {
+fn corrected(sensor: usize, settings: &SensorSettings) -> bool {
     settings.method == DIRECT
         && [ONE_POINT, TWO_POINTS].into_iter().any(|method| {
             let failed = candidate(method, &settings.trial, &settings.points);

@@ -9,7 +9,7 @@ use std::collections::VecDeque;
 use twin::calibration::{DIRECT, LEVEL, LIMITS, ONE_POINT, TWO_POINTS};
 use twin::floats::split;
 use twin::frames::{MASK, READ, WRITE_MANY, WRITE_ONE};
-use twin::map::{locate, Access, Field, Place, ENTER, LEAVE, LEVEL_IDS, PARAMETERS, UPDATE};
+use twin::map::{locate, Access, Field, Owner, Place, ENTER, LEAVE, LEVEL_IDS, PARAMETERS, UPDATE};
 use twin::state::{valid_address, Sonde};
 use twin::volume::{capacity, ENTRY_WORDS, HEADER_WORDS};
 use twin::Framing;
@@ -37,11 +37,7 @@ impl Generator {
     pub fn new(random: Random) -> Generator {
         let mut fields: Vec<Place> = (0..500).filter_map(locate).collect();
         fields.dedup_by_key(|place| place.start);
-        let writable: Vec<Place> = fields
-            .iter()
-            .copied()
-            .filter(|place| place.field.access(place.sensor) != Access::ReadOnly)
-            .collect();
+        let writable: Vec<Place> = fields.iter().copied().filter(|place| place.access() != Access::ReadOnly).collect();
         let words = writable.iter().copied().filter(|place| place.field.words() == 1).collect();
         Generator {
             random,
@@ -134,7 +130,7 @@ impl Generator {
         } else {
             random.between(1, 4) as u8
         };
-        let [offset, slope, _] = sonde.settings[0].active.coefficients;
+        let [offset, slope, _] = sonde.settings.sensors[0].active.coefficients;
         let first = match random.below(10) {
             0 => values::any(random),
             1..=2 => random.pick(&[f32::MAX, -f32::MAX, 1e38, -2e38, 5e37, 1e-33, -1e-39, 0.0, -0.0]),
@@ -282,7 +278,7 @@ impl Generator {
         let place = random.pick(&self.fields);
         let any = random.word();
         let start = match random.below(8) {
-            0 => random.pick(&[0xFFFF, 0xFFFE, 0xFF83, 0xFF84, 0x2500, 99, 9, 500, 154, any]),
+            0 => random.pick(&[0xFFFF, 0xFFFE, 0xFF83, 0xFF84, 0x2500, 99, 10, 500, 154, any]),
             1..=2 => (place.start + place.field.words()).wrapping_sub(random.below(3) as u16),
             3 => place.start.wrapping_sub(1),
             _ => place.start,
@@ -313,12 +309,12 @@ impl Generator {
     fn word_value(&mut self, place: Place) -> u16 {
         let random = &mut self.random;
         let any = random.word();
-        match place.field {
-            Field::Command => random.pick(&[ENTER, ENTER, UPDATE, UPDATE, LEAVE, ENTER - 1, LEAVE + 1, 0, 1, any]),
-            Field::Method => random.pick(&[0, 1, 2, 0, 1, 2, 3, 0xFFFF, any]),
-            Field::Id(_) => random.pick(&[LEVEL_IDS[0], LEVEL_IDS[1], LEVEL_IDS[2], LEVEL_IDS[0] - 1, LEVEL_IDS[2] + 1, any]),
-            Field::Units(i) => {
-                let listed = random.pick(PARAMETERS[place.sensor][i].units);
+        match (place.owner, place.field) {
+            (_, Field::Command) => random.pick(&[ENTER, ENTER, UPDATE, UPDATE, LEAVE, ENTER - 1, LEAVE + 1, 0, 1, any]),
+            (_, Field::Method) => random.pick(&[0, 1, 2, 0, 1, 2, 3, 0xFFFF, any]),
+            (_, Field::Id(_)) => random.pick(&[LEVEL_IDS[0], LEVEL_IDS[1], LEVEL_IDS[2], LEVEL_IDS[0] - 1, LEVEL_IDS[2] + 1, any]),
+            (Owner::Sensor(sensor), Field::Units(i)) => {
+                let listed = random.pick(PARAMETERS[sensor][i].units);
                 random.pick(&[listed, listed, listed, listed + 1, listed - 1, any])
             }
             _ => any,
@@ -327,9 +323,9 @@ impl Generator {
 
     fn long_value(&mut self, place: Place) -> u32 {
         let random = &mut self.random;
-        match place.field {
-            Field::Next => random.long(),
-            Field::Coefficient(i) if random.chance(40) => values::beside_limit(random, place.sensor, i).to_bits(),
+        match (place.owner, place.field) {
+            (_, Field::Next) => random.long(),
+            (Owner::Sensor(sensor), Field::Coefficient(i)) if random.chance(40) => values::beside_limit(random, sensor, i).to_bits(),
             _ => values::any(random).to_bits(),
         }
     }

@@ -169,9 +169,9 @@ impl Lists {
                 "word {word} of the volume isn't the book's\n  volume: {volume:#06X}\n  book:   {laid:#06X}"
             ));
         }
-        for (sensor, settings) in both.twin.settings.iter().enumerate() {
+        for (sensor, settings) in both.twin.settings.sensors.iter().enumerate() {
             let replayed = replay(&both.library_volume, sensor);
-            if !replayed.same(&settings.active) || !replayed.same(&book.settings()[sensor].active) {
+            if !replayed.same(&settings.active) || !replayed.same(&book.settings().sensors[sensor].active) {
                 return Err(format!(
                     "sensor {}: the calibration in force isn't replay's or the book's",
                     sensor + 1
@@ -367,6 +367,7 @@ fn call_on_wrong(both: &Both, corruption: Corruption, generator: &mut Generator)
         let sensor = both
             .twin
             .settings
+            .sensors
             .iter()
             .position(|settings| settings.trial[2].to_bits() != 0)
             .unwrap_or(0) as u16;
