@@ -1,5 +1,6 @@
 //! One call on both implementations, and all that is compared after it.
 
+use crate::before::History;
 use crate::breach;
 use crate::calls::{hex, Answer, Call, Request};
 use crate::convert::{difference, from_library, to_library};
@@ -18,6 +19,8 @@ pub struct Both {
     pub library_volume: Vec<u16>,
     /// How many words of the volume the last accepted begin was lent.
     pub lent: usize,
+    /// What earlier calls did with the technician's number.
+    pub history: History,
 }
 
 /// The runs of registers that the map has, as start and count.
@@ -57,6 +60,7 @@ impl Both {
             twin_volume: volume.clone(),
             library_volume: volume,
             lent: 0,
+            history: History::of(&twin),
         }
     }
 
@@ -64,6 +68,7 @@ impl Both {
     pub fn change_sonde(&mut self, change: impl FnOnce(&mut Sonde)) {
         change(&mut self.twin);
         self.library = to_library(&self.twin);
+        self.history = History::of(&self.twin);
     }
 
     /// Changes both volumes alike.

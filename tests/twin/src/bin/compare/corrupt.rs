@@ -26,6 +26,7 @@ pub enum Corruption {
     SpareLevelId,
     Mode,
     TrialThird,
+    Technician,
     Version,
     CapacityWord,
     InUse,
@@ -37,6 +38,7 @@ pub enum Corruption {
     EntryNext,
     EntrySensor,
     EntryMethod,
+    EntryTechnician,
     EntryZero,
     EntryTime,
     EntryCoefficient,
@@ -58,7 +60,7 @@ pub enum Corruption {
 use Corruption::*;
 
 /// Those that change the sonde.
-pub const OF_SONDE: [Corruption; 16] = [
+pub const OF_SONDE: [Corruption; 17] = [
     Address,
     ActiveNotFinite,
     TrialNotFinite,
@@ -75,10 +77,11 @@ pub const OF_SONDE: [Corruption; 16] = [
     SpareLevelId,
     Mode,
     TrialThird,
+    Technician,
 ];
 
 /// Those that change the volume, or how much of it is lent.
-pub const OF_VOLUME: [Corruption; 27] = [
+pub const OF_VOLUME: [Corruption; 28] = [
     Version,
     CapacityWord,
     InUse,
@@ -90,6 +93,7 @@ pub const OF_VOLUME: [Corruption; 27] = [
     EntryNext,
     EntrySensor,
     EntryMethod,
+    EntryTechnician,
     EntryZero,
     EntryTime,
     EntryCoefficient,
@@ -111,7 +115,8 @@ pub const OF_VOLUME: [Corruption; 27] = [
 impl Corruption {
     /// Whether sonde and volume stay valid and in agreement.
     pub fn harmless(self) -> bool {
-        matches!(self, SpareUnits | SpareLevelId | Mode | TrialThird | FreeWord)
+        let of_sonde = matches!(self, SpareUnits | SpareLevelId | Mode | TrialThird | Technician);
+        of_sonde || matches!(self, EntryTechnician | FreeWord)
     }
 
     /// Whether sonde and volume may still be valid and in agreement: what was picked can be listed, overruled by a later entry, or a length
@@ -176,6 +181,7 @@ pub fn corrupt_sonde(sonde: &mut Sonde, corruption: Corruption, random: &mut Ran
             settings.trial = settings.active.coefficients;
             settings.trial[2] = random.pick(&[-0.0, 1.0, -1.0, f32::from_bits(1)]);
         }
+        Technician => change(&mut sonde.settings.technician, random),
         _ => sonde.settings.sensors[LEVEL].units[2] = random.word(),
     }
 }
@@ -315,6 +321,7 @@ fn corrupt_entry(entry: &mut [u16], in_use: usize, corruption: Corruption, rando
         EntryNext => relink(&mut entry[0], in_use, random),
         EntrySensor => entry[1] = random.pick(&[0, 1, 2, 3, 4, 5, 0x101, 65535].map(|sensor| if sensor == entry[1] { 0 } else { sensor })),
         EntryMethod => entry[2] = random.pick(&[1, 2, 3, 65535].map(|other| if other == method { 0 } else { other })),
+        EntryTechnician => change(&mut entry[3], random),
         EntryZero => change(&mut entry[random.between(20, 23)], random),
         EntryTime => change(&mut entry[random.between(4, 5)], random),
         EntryCoefficient => change(&mut entry[random.between(6, 11)], random),

@@ -1,15 +1,18 @@
 //! What the compared calls have met, and what they have to have met.
 
-use crate::both::{Both, IMAGE};
+use crate::before::Before;
+use crate::both::IMAGE;
 use crate::breach::{Breach, OF_ASCII};
 use crate::calls::{Answer, Call, Kind, Request};
 use crate::corrupt::{Corruption, OF_SONDE, OF_VOLUME};
-use crate::generate::{LONGEST_READ, REPLIES};
+use crate::generate::{DEVICE_END, LONGEST_READ, REPLIES};
 use std::collections::BTreeMap;
 use std::num::FpCategory;
-use twin::calibration::{candidate, within_limits, Coefficients, DIRECT, LEVEL, LIMITS, ONE_POINT, TWO_POINTS};
+use twin::calibration::{candidate, within_limits, Coefficients, DIRECT, LEVEL, LIMITS, ONE_POINT, SENSORS, TWO_POINTS};
 use twin::floats::{all_finite, join};
-use twin::frames::{judge, Change, SensorChange, Verdict, BROADCAST, JOURNAL_FULL, OUT_OF_LIMITS};
+use twin::frames::{
+    judge, Change, SensorChange, Verdict, BROADCAST, ILLEGAL_FUNCTION, ILLEGAL_SHAPE, JOURNAL_FULL, MASK, OUT_OF_LIMITS, READ, WRITE_MANY,
+};
 use twin::framing::{Framing, Room};
 use twin::map::{locate, Field, LEVEL_IDS, LEVEL_PARAMETER, PARAMETERS};
 use twin::readings::{GOOD, NOT_FINITE};
@@ -143,6 +146,41 @@ pub enum Item {
         method: u16,
         division: Division,
     },
+    /// A write of the technician's number.
+    TechnicianBy {
+        framing: Framing,
+        function: u8,
+        broadcast: bool,
+    },
+    /// The least or the greatest number in place of another.
+    TechnicianWritten(u16),
+    /// A mask over a number other than 0, and whether it keeps bits of it: then it gives another than over 0.
+    TechnicianMasked {
+        keeps: bool,
+    },
+    /// The technician of an entry, and whether a number was given.
+    Technician {
+        sensor: usize,
+        given: bool,
+    },
+    /// An entry whose number isn't the one that stood at 0xE000.
+    TechnicianInMode {
+        sensor: usize,
+    },
+    /// Two entries of a journal, of one sensor or of two, with different numbers other than 0.
+    TwoTechnicians {
+        one_sensor: bool,
+    },
+    /// An entry with 0, since a power-up has cleared the number.
+    TechnicianCleared,
+    /// A request for registers at the device's end; code 0 where it is accepted.
+    DeviceEnd {
+        framing: Framing,
+        function: u8,
+        start: u16,
+        count: u16,
+        code: u8,
+    },
     Full {
         capacity: usize,
     },
@@ -169,9 +207,12 @@ pub enum Item {
         calibrating: bool,
     },
     PowerUpWithEntries,
+    PowerUpWithTechnician,
     BeginAgain,
     BeginCalibrating,
+    BeginWithTechnician,
     AuditWithEntries,
+    AuditWithTechnician,
     Corrupted {
         corruption: Corruption,
         call: Kind,
@@ -187,27 +228,15 @@ pub enum Item {
 #[derive(Default)]
 pub struct Coverage(BTreeMap<Item, u64>);
 
-/// What there was before a call.
-pub struct Before {
-    pub sonde: Sonde,
-    pub in_use: usize,
-    pub lent: usize,
-}
-
-impl Before {
-    pub fn new(both: &Both) -> Before {
-        let in_use = if both.lent > 2 { usize::from(both.twin_volume[2]) } else { 0 };
-        Before {
-            sonde: both.twin,
-            in_use,
-            lent: both.lent,
-        }
-    }
-}
-
 impl Coverage {
     pub fn note(&mut self, item: Item) {
         *self.0.entry(item).or_default() += 1;
+    }
+
+    fn note_if(&mut self, met: bool, item: Item) {
+        if met {
+            self.note(item);
+        }
     }
 
     pub fn merge(&mut self, other: &Coverage) {
@@ -230,18 +259,26 @@ impl Coverage {
         }
         match call {
             Call::Frame(request) => self.note_frame(before, request),
-            Call::PowerUp { .. } if before.in_use > 0 => self.note(Item::PowerUpWithEntries),
-            Call::Audit { .. } if answer.length > 0 => self.note(Item::AuditWithEntries),
-            Call::Begin { .. } => {
-                if before.lent > 0 && before.sonde.settings.sensors.iter().any(|settings| settings.active.time != 0) {
-                    self.note(Item::BeginAgain);
-                }
-                if before.sonde.settings.sensors.iter().any(|settings| settings.calibrating) {
-                    self.note(Item::BeginCalibrating);
-                }
+            Call::PowerUp { .. } => {
+                self.note_if(before.in_use > 0, Item::PowerUpWithEntries);
+                self.note_if(before.with_technician(), Item::PowerUpWithTechnician);
             }
-            _ => {}
+            Call::Audit { .. } => {
+                self.note_if(answer.length > 0, Item::AuditWithEntries);
+                self.note_if(before.with_technician(), Item::AuditWithTechnician);
+            }
+            Call::Begin { .. } => self.note_begin(before),
+            Call::Fresh { .. } | Call::Measure { .. } => {}
         }
+    }
+
+    fn note_begin(&mut self, before: &Before) {
+        let settings = &before.sonde.settings;
+        let again = before.lent > 0 && settings.sensors.iter().any(|settings| settings.active.time != 0);
+        self.note_if(again, Item::BeginAgain);
+        let calibrating = settings.sensors.iter().any(|settings| settings.calibrating);
+        self.note_if(calibrating, Item::BeginCalibrating);
+        self.note_if(settings.technician != 0, Item::BeginWithTechnician);
     }
 
     /// How a frame's number goes with its framing and its reply buffer.
@@ -301,21 +338,82 @@ impl Coverage {
             }
             Verdict::Write(change) => {
                 self.note(accepted);
-                if let Change::Sensor {
-                    sensor,
-                    change: SensorChange::Update(_),
-                } = change
-                {
-                    self.note(Item::UpdateBy {
-                        framing,
-                        function: body[1],
-                        broadcast,
-                    });
-                    self.note_update(before, sensor, capacity);
-                }
+                self.note_change(before, framing, body, change, capacity);
             }
         }
+        self.note_device_end(framing, body, &verdict);
         self.note_written(body);
+    }
+
+    fn note_change(&mut self, before: &Before, framing: Framing, body: &[u8], change: Change, capacity: usize) {
+        let (function, broadcast) = (body[1], body[0] == BROADCAST);
+        match change {
+            Change::Technician(number) => {
+                self.note(Item::TechnicianBy {
+                    framing,
+                    function,
+                    broadcast,
+                });
+                self.note_number(before, body, number);
+            }
+            Change::Sensor {
+                sensor,
+                change: SensorChange::Update(_),
+            } => {
+                self.note(Item::UpdateBy {
+                    framing,
+                    function,
+                    broadcast,
+                });
+                self.note_update(before, sensor, capacity);
+                self.note_technician(before, sensor);
+            }
+            Change::Sensor { .. } => {}
+        }
+    }
+
+    /// A technician's number that is written.
+    fn note_number(&mut self, before: &Before, body: &[u8], number: u16) {
+        let old = before.sonde.settings.technician;
+        if number != old && [0, u16::MAX].contains(&number) {
+            self.note(Item::TechnicianWritten(number));
+        }
+        if body[1] == MASK && old != 0 {
+            let keeps = old & word(body, 4) != 0;
+            self.note(Item::TechnicianMasked { keeps });
+        }
+    }
+
+    /// The technician of an entry.
+    fn note_technician(&mut self, before: &Before, sensor: usize) {
+        let technician = before.sonde.settings.technician;
+        let given = technician != 0;
+        self.note(Item::Technician { sensor, given });
+        self.note_if(technician != before.history.entered[sensor], Item::TechnicianInMode { sensor });
+        self.note_if(before.history.cleared, Item::TechnicianCleared);
+        for (other, number) in before.technicians.into_iter().enumerate() {
+            let one_sensor = other == sensor;
+            self.note_if(given && ![0, technician].contains(&number), Item::TwoTechnicians { one_sensor });
+        }
+    }
+
+    fn note_device_end(&mut self, framing: Framing, body: &[u8], verdict: &Verdict) {
+        let code = match verdict {
+            Verdict::Foreign | Verdict::Ignored | Verdict::Refused(ILLEGAL_FUNCTION | ILLEGAL_SHAPE) => return,
+            _ => verdict.code().unwrap_or(0),
+        };
+        let (function, start) = (body[1], word(body, 2));
+        let count = if [READ, WRITE_MANY].contains(&function) { word(body, 4) } else { 1 };
+        let mut requests = DEVICE_END.iter().map(|&(function, start, count, _)| (function, start, count));
+        if requests.any(|request| request == (function, start, count)) {
+            self.note(Item::DeviceEnd {
+                framing,
+                function,
+                start,
+                count,
+                code,
+            });
+        }
     }
 
     fn note_bad(&mut self, before: &Before, request: &Request) {
@@ -368,11 +466,10 @@ impl Coverage {
     }
 
     fn note_refused(&mut self, before: &Before, code: u8, capacity: usize, body: &[u8]) {
-        let command = |body: &[u8]| usize::from(body[2]) << 8 | usize::from(body[3]);
         match code {
             JOURNAL_FULL => self.note(Item::RefusedFull { capacity }),
             OUT_OF_LIMITS => {
-                let settings = &before.sonde.settings.sensors[command(body) / 100 - 1];
+                let settings = &before.sonde.settings.sensors[usize::from(word(body, 2)) / 100 - 1];
                 let coefficients = candidate(settings.method, &settings.trial, &settings.points);
                 self.note_division(settings, coefficients);
             }
@@ -433,10 +530,10 @@ impl Coverage {
         if body.len() != 11 || body[1] != 16 {
             return;
         }
-        let word = |at: usize| u16::from_be_bytes([body[at], body[at + 1]]);
+        let start = word(body, 2);
         let float_field = |field| matches!(field, Field::Coefficient(_) | Field::Point(_) | Field::Sentinel(_));
-        if locate(word(2)).is_some_and(|place| place.start == word(2) && float_field(place.field)) {
-            self.note(Item::Written(class(f32::from_bits(join(word(7), word(9))))));
+        if locate(start).is_some_and(|place| place.start == start && float_field(place.field)) {
+            self.note(Item::Written(class(f32::from_bits(join(word(body, 7), word(body, 9))))));
         }
     }
 
@@ -485,6 +582,11 @@ impl Coverage {
         let (kinds, least) = (of_each.len(), of_each.into_iter().min().unwrap_or(0));
         format!("{frames} frames in ASCII with {calibrations} calibrations and {bad} bad ones (at least {least} of each of {kinds} kinds)")
     }
+}
+
+/// A big-endian word of the body.
+fn word(body: &[u8], at: usize) -> u16 {
+    u16::from_be_bytes([body[at], body[at + 1]])
 }
 
 fn sort(address: u8, body: Option<&[u8]>) -> Sort {
@@ -545,14 +647,18 @@ fn required() -> Vec<Item> {
         Item::WrongChecksum,
         Item::NamedRtu,
         Item::PowerUpWithEntries,
+        Item::PowerUpWithTechnician,
         Item::BeginAgain,
         Item::BeginCalibrating,
+        Item::BeginWithTechnician,
         Item::AuditWithEntries,
+        Item::AuditWithTechnician,
     ];
     items.extend(required_answers());
     items.extend(FRAMINGS.into_iter().flat_map(required_frames));
     items.extend(OF_ASCII.map(Item::BadAscii));
     items.extend(required_updates());
+    items.extend(required_technicians());
     items.extend(required_readings());
     items.extend(required_corruptions());
     items.extend(required_faults());
@@ -649,8 +755,20 @@ fn required_frames(framing: Framing) -> Vec<Item> {
                 function,
                 broadcast,
             });
+            items.push(Item::TechnicianBy {
+                framing,
+                function,
+                broadcast,
+            });
         }
     }
+    items.extend(DEVICE_END.map(|(function, start, count, code)| Item::DeviceEnd {
+        framing,
+        function,
+        start,
+        count,
+        code,
+    }));
     items.push(Item::Accepted {
         framing,
         function: 3,
@@ -700,6 +818,18 @@ fn required_updates() -> Vec<Item> {
         method: TWO_POINTS,
         division,
     }));
+    items
+}
+
+fn required_technicians() -> Vec<Item> {
+    let mut items = vec![Item::TechnicianCleared];
+    items.extend([0, u16::MAX].map(Item::TechnicianWritten));
+    for either in [false, true] {
+        items.push(Item::TechnicianMasked { keeps: either });
+        items.push(Item::TwoTechnicians { one_sensor: either });
+        items.extend((0..SENSORS).map(|sensor| Item::Technician { sensor, given: either }));
+    }
+    items.extend((0..SENSORS).map(|sensor| Item::TechnicianInMode { sensor }));
     items
 }
 

@@ -20,6 +20,27 @@ pub const REPLIES: [usize; 8] = [255, 256, 257, 511, 512, 513, 514, 600];
 /// Start and count of the longest run of registers.
 pub const LONGEST_READ: [u16; 2] = [130, 24];
 
+/// The register of the technician's number, the last of the device's.
+pub const TECHNICIAN: u16 = 9;
+
+/// Requests for registers at the device's end: function, start, count, and the code, 0 where they are accepted.
+pub const DEVICE_END: [(u8, u16, u16, u8); 14] = [
+    (READ, 0, 10, 0),
+    (READ, 8, 2, 0),
+    (READ, 9, 1, 0),
+    (READ, 0, 11, 2),
+    (READ, 9, 2, 2),
+    (READ, 10, 1, 2),
+    (WRITE_ONE, 8, 1, 0xC2),
+    (WRITE_ONE, 10, 1, 2),
+    (MASK, 8, 1, 0xC2),
+    (MASK, 10, 1, 2),
+    (WRITE_MANY, 8, 2, 0x80),
+    (WRITE_MANY, 8, 3, 2),
+    (WRITE_MANY, 9, 2, 2),
+    (WRITE_MANY, 10, 1, 2),
+];
+
 pub struct Generator {
     pub random: Random,
     /// The fields of the map.
@@ -171,10 +192,10 @@ impl Generator {
         })
     }
 
-    /// A frame that writes a command register, in either framing.
-    pub fn command(&mut self, address: u8, register: u16, command: u16, words: usize) -> Call {
+    /// A frame that writes a register of one word, in either framing.
+    pub fn word_frame(&mut self, address: u8, register: u16, value: u16, words: usize) -> Call {
         let mut body = vec![address];
-        body.extend(self.write_word(register, command));
+        body.extend(self.write_word(register, value));
         let framing = self.framing();
         Call::Frame(Request {
             framing,
@@ -212,13 +233,15 @@ impl Generator {
                 return body;
             }
         }
-        match self.random.below(20) {
+        match self.random.below(22) {
             0..=1 => self.read_present(),
             2..=4 => self.read(),
             5..=11 => self.write(),
             12..=13 => self.write_anything(),
             14..=17 => self.spoil(),
             18 => self.other_function(),
+            19 => self.write_technician(),
+            20 => self.device_end(),
             _ => self.noise(),
         }
     }
@@ -318,6 +341,34 @@ impl Generator {
                 random.pick(&[listed, listed, listed, listed + 1, listed - 1, any])
             }
             _ => any,
+        }
+    }
+
+    /// The technician's number; a mask keeps any bits of the one that stands.
+    fn write_technician(&mut self) -> Vec<u8> {
+        let random = &mut self.random;
+        let any = random.word();
+        let number = random.pick(&[0, 1, 0xFFFF, any, any, any]);
+        match random.below(3) {
+            0 => words_body(WRITE_ONE, &[TECHNICIAN, number]),
+            1 => write_many(TECHNICIAN, &[number]),
+            _ => {
+                let any = random.word();
+                words_body(MASK, &[TECHNICIAN, random.pick(&[0, 0xFFFF, 0x00FF, any, any]), number])
+            }
+        }
+    }
+
+    /// Registers beside the technician's.
+    fn device_end(&mut self) -> Vec<u8> {
+        let random = &mut self.random;
+        let (function, start, count, _) = random.pick(&DEVICE_END);
+        let value = random.word();
+        match function {
+            READ => words_body(READ, &[start, count]),
+            WRITE_ONE => words_body(WRITE_ONE, &[start, value]),
+            MASK => words_body(MASK, &[start, random.word(), value]),
+            _ => write_many(start, &vec![value; count.into()]),
         }
     }
 
@@ -424,10 +475,11 @@ impl Generator {
         body
     }
 
-    /// The frames of a calibration: mode, method, points or trial coefficients, update.
+    /// The frames of a calibration: technician, mode, method, points or trial coefficients, update.
     fn plan_calibration(&mut self) {
         let sensor = self.random.below(4);
         let base = 100 * (sensor as u16 + 1);
+        self.plan_technician(40);
         self.plan_command(base, ENTER);
         let method = if sensor == LEVEL { 0 } else { self.random.below(3) as u16 };
         if sensor != LEVEL {
@@ -450,6 +502,7 @@ impl Generator {
             _ => self.plan_trial(sensor, base),
         }
         for _ in 0..self.random.pick(&[1, 1, 1, 2]) {
+            self.plan_technician(30);
             self.plan_command(base, UPDATE);
         }
         if sensor != LEVEL && self.random.chance(20) {
@@ -457,6 +510,14 @@ impl Generator {
         }
         if self.random.chance(30) {
             self.plan_command(base, LEAVE);
+        }
+    }
+
+    /// So often another number of the technician.
+    fn plan_technician(&mut self, percent: usize) {
+        if self.random.chance(percent) {
+            let body = self.write_technician();
+            self.script.push_back(body);
         }
     }
 

@@ -1,17 +1,19 @@
 //! Lists of calls. After each call everything is compared; a clean list is also held to the control book (demand 3).
 
+use crate::before::Before;
 use crate::both::{Both, Comparison};
 use crate::calls::{Answer, Call, Kind, Request};
 use crate::convert::settings_difference;
 use crate::corrupt::{corrupt_sonde, corrupt_volume, Corruption, OF_SONDE, OF_VOLUME};
-use crate::coverage::{Before, Coverage, Item};
-use crate::generate::{makes_sonde, Generator};
+use crate::coverage::{Coverage, Item};
+use crate::generate::{makes_sonde, Generator, TECHNICIAN};
 use crate::library;
 use crate::random::Random;
 use serve::fault;
 use std::collections::VecDeque;
 use twin::book::Book;
 use twin::map::{ENTER, UPDATE};
+use twin::state::{SensorSettings, Sonde};
 use twin::volume::{replay, CAPACITY_MOST, ENTRY_WORDS, HEADER_WORDS};
 
 /// Words of a volume of full capacity.
@@ -99,7 +101,9 @@ impl Lists {
         if let Call::Frame(request) = call {
             hold_form(before, both, request, answer)?;
         }
+        hold_technician(before, both, call, answer)?;
         self.coverage.note_call(before, call, answer);
+        both.history = before.history.after(call, &before.sonde, &both.twin);
         if self.comparison.agreed {
             self.coverage.note_registers(&both.twin, &self.comparison.registers);
         }
@@ -207,24 +211,28 @@ impl Lists {
         Ok(())
     }
 
-    /// Fills a journal of 1000 entries, updates once more, powers up, and corrupts copies.
+    /// Fills a journal of 1000 entries by several technicians, updates once more, powers up, and corrupts copies.
     fn long(&mut self, generator: &mut Generator) -> Result<(), String> {
         let mut both = Both::new(MOST_WORDS + ENTRY_WORDS + 2, &mut generator.random);
         let mut book = Book::fresh(1);
         let mut calls = VecDeque::from([Call::Fresh { address: 1 }, Call::Begin { words: MOST_WORDS }]);
-        calls.extend([105, 205, 305, 405].map(|register| long_command(generator, register, ENTER)));
+        calls.extend([105, 205, 305, 405].map(|register| long_word(generator, register, ENTER)));
         let mut number = 0;
         while let Some(call) = calls.pop_front() {
             self.followed_step(&mut both, &mut book, &call, generator)
                 .map_err(|difference| format!("call {number}: {difference}"))?;
             number += 1;
             if calls.is_empty() && book.entries().len() < CAPACITY_MOST {
+                if generator.random.chance(20) {
+                    let technician = generator.random.word();
+                    calls.push_back(long_word(generator, TECHNICIAN, technician));
+                }
                 let register = generator.random.pick(&[105, 205, 305, 405]);
-                calls.push_back(long_command(generator, register, UPDATE));
+                calls.push_back(long_word(generator, register, UPDATE));
             }
         }
         let last = [
-            long_command(generator, 305, UPDATE),
+            long_word(generator, 305, UPDATE),
             Call::PowerUp {
                 address: 9,
                 words: MOST_WORDS,
@@ -325,8 +333,8 @@ fn small_volume(random: &mut Random) -> usize {
     HEADER_WORDS + ENTRY_WORDS * random.pick(&[1, 2, 3, 4, 6, 8]) + random.between(0, 25)
 }
 
-fn long_command(generator: &mut Generator, register: u16, command: u16) -> Call {
-    generator.command(1, register, command, MOST_WORDS)
+fn long_word(generator: &mut Generator, register: u16, value: u16) -> Call {
+    generator.word_frame(1, register, value, MOST_WORDS)
 }
 
 /// A frame that was made to be good isn't counted bad, and one that was made to break its form is: both implementations alike could be wrong.
@@ -340,6 +348,28 @@ fn hold_form(before: &Before, both: &Both, request: &Request, answer: Answer) ->
     let due = if answer.number == 0 { was.saturating_add(due) } else { was };
     if is != due {
         return Err(format!("both count {was} bad frames before it and {is} after it, not {due}"));
+    }
+    Ok(())
+}
+
+/// A sonde that was just made has technician 0, no call but a frame changes the number, and an entry carries the one from before its frame: both
+/// implementations alike could be wrong.
+fn hold_technician(before: &Before, both: &Both, call: &Call, answer: Answer) -> Result<(), String> {
+    let (was, is) = (before.sonde.settings.technician, both.twin.settings.technician);
+    let (due, frame) = match call.kind() {
+        Kind::Fresh | Kind::PowerUp if answer.number == 0 => (0, false),
+        Kind::Frame if answer.number == 0 => (is, true),
+        _ => (was, false),
+    };
+    if is != due {
+        return Err(format!("both have technician {was} before it and {is} after it, not {due}"));
+    }
+    let volume = &both.twin_volume;
+    if frame && usize::from(volume[2]) == before.in_use + 1 {
+        let carried = volume[HEADER_WORDS + ENTRY_WORDS * before.in_use + 3];
+        if carried != was {
+            return Err(format!("both put technician {carried} in the entry, not {was}"));
+        }
     }
     Ok(())
 }
@@ -360,18 +390,21 @@ fn corrupt(both: &mut Both, corruption: Corruption, random: &mut Random) -> bool
     corrupt_volume(both, corruption, random)
 }
 
+/// The sensor whose update shows what was changed: one with a third coefficient on trial or, for the technician, one in mode.
+fn telling_sensor(sonde: &Sonde, corruption: Corruption) -> u16 {
+    let telling = |settings: &SensorSettings| match corruption {
+        Corruption::TrialThird => settings.trial[2].to_bits() != 0,
+        _ => settings.calibrating,
+    };
+    sonde.settings.sensors.iter().position(telling).unwrap_or(0) as u16
+}
+
 /// A call that looks at what is wrong.
 fn call_on_wrong(both: &Both, corruption: Corruption, generator: &mut Generator) -> Call {
     let words = both.lent;
-    if corruption == Corruption::TrialThird && generator.random.chance(50) {
-        let sensor = both
-            .twin
-            .settings
-            .sensors
-            .iter()
-            .position(|settings| settings.trial[2].to_bits() != 0)
-            .unwrap_or(0) as u16;
-        return generator.command(both.twin.address, 100 * sensor + 105, UPDATE, words);
+    if [Corruption::TrialThird, Corruption::Technician].contains(&corruption) && generator.random.chance(50) {
+        let register = 100 * telling_sensor(&both.twin, corruption) + 105;
+        return generator.word_frame(both.twin.address, register, UPDATE, words);
     }
     match generator.random.below(10) {
         0..=1 => Call::Begin { words },

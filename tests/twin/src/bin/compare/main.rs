@@ -5,6 +5,7 @@
 //! volumes are apart. Wherever it is known whether a frame is bad or a volume valid, both are held to that, and so is the fault that the
 //! serial host names. At the end the run has to have met everything that `coverage` requires.
 
+mod before;
 mod both;
 mod breach;
 mod calls;
