@@ -1,6 +1,6 @@
 -- The write of a field is judged the same on the sonde and on the book, and what comes of it keeps the invariant and adds the entries of
 -- accepted calibrations. Assumes nothing.
-use mathlib.Core.Path.{_≡_, refl, sym, ap, _∙_}
+use mathlib.Core.Path.{_≡_, refl, sym, ap, subst, _∙_}
 use mathlib.Core.Bool.{Bool, true, false, _||_, cond}
 use mathlib.Core.List.{List, [], _++_, append-nil}
 use Prim.Native.Nat.{ℕ, zero, suc, _≤_}
@@ -18,7 +18,7 @@ use Rattle.entries.specs.Entries.{replacedBy}
 use Rattle.entries.specs.declared.Entry.{Entry}
 use Rattle.fields.specs.declared.Field.{Field}
 use Rattle.fields.proofs.Computed.{other}
-use Rattle.journal.specs.Journal.{IsSensor, ofSensor, on, latest}
+use Rattle.journal.specs.Journal.{Journal, IsSensor, ofSensor, on, latest}
 use Rattle.journal.specs.Stores.{appendsOf}
 use Rattle.journal.proofs.Holds.{Holds, holds-used, append-holds}
 use Rattle.journal.proofs.Replay.{latest-snoc}
@@ -106,6 +106,10 @@ module _ {x : State} {b : Model} (h : Invariant x b) where
 
 -- ---- what comes of it
 
+-- a journal with no entries more
+none-more : (j : Journal) → extended j [] ≡ j
+none-more j = rw (append-nil (j .entries))
+
 -- what an answer leaves, once it is counted, keeps the invariant, and the book has these entries more
 pub record Answered (b : Model) (o : Answer) (c : Model) (es : List Entry) : Type 0 where
   pub invariant : Invariant (state (countedBy (o .event) (o .sonde)) (o .volume)) c
@@ -163,8 +167,8 @@ module _ {x : State} {b : Model} (h : Invariant x b) where
       (record {
         invariant = record {
           matches = counted (with-technician (h .matches) _) _;
-          holds = rw append-nil (h .holds);
-          followed = λ t j. rw append-nil (h .followed t j);
+          holds = subst (Holds (x .volume)) (sym (none-more (b .journal))) (h .holds);
+          followed = λ t j. ap (latest t (ofSensor (b .journal .opening) t)) (append-nil (b .journal .entries)) ∙ h .followed t j;
         };
         entries = refl;
       })

@@ -7,7 +7,7 @@ use state::Sonde;
 use text::character;
 
 // The sonde, the clock of its frames, how many words its volume has, how many bytes of the reply buffer its frames are lent, and what the
-// last call gave: its number, and the length of a frame's reply or the entries in use of an audit.
+// last call gave: its number, and the length of a frame's reply, the entries in use of an audit, or a word of the volume.
 pub struct Scene {
     pub sonde: Sonde,
     pub clock: u32,
@@ -124,6 +124,15 @@ impl Scene {
         self.gave(a.number, a.entries)
     }
 
+    // A word of the volume; 0 for one that it doesn't have.
+    fn look(self, spelled: &[u8], volume: &[u16]) -> Scene {
+        let at = word(spelled, 0) as usize;
+        if at < lent(volume, self.words) {
+            return self.gave(0, volume[at]);
+        }
+        self.gave(0, 0)
+    }
+
     fn frame(mut self, sent: &[u8], reply: &mut [u8], volume: &mut [u16], ascii: bool) -> Scene {
         let m = lent_bytes(reply, self.room);
         let n = lent(volume, self.words);
@@ -150,6 +159,7 @@ impl Scene {
             b'p' => self.power_up(spelled, volume),
             b'm' => self.measure(spelled),
             b'a' => self.audit(volume),
+            b'w' => self.look(spelled, volume),
             b'r' => self.set_room(spelled),
             b'>' => self.frame(spelled, reply, volume, false),
             b':' => self.frame(spelled, reply, volume, true),
@@ -157,7 +167,8 @@ impl Scene {
         }
     }
 
-    // Whether the last call gave what a line says: `<` the reply's bytes, `=` the number, with the entries in use for an audit.
+    // Whether the last call gave what a line says: `<` the reply's bytes, `=` the number, with the entries in use for an audit and the word
+    // that was looked at.
     pub fn agrees(self, name: u8, spelled: &[u8], reply: &[u8]) -> bool {
         if name == b'<' {
             return (self.number == 0) & is_same(reply, self.count as usize, spelled);

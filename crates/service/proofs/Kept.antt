@@ -34,6 +34,7 @@ use Rattle.sensors.specs.declared.Sensor.{Sensor}
 use Rattle.registers.specs.Registers.{sensorRegister}
 use Rattle.commands.specs.Commands.{contextOf, codeOf, setupAfter, refusedUpdate}
 use Rattle.commands.specs.declared.Context.{Context}
+use Rattle.commands.specs.declared.Written.{Written}
 use Rattle.writes.proofs.Laws.{Journalled, nothing, entry, journalled}
 use Rattle.writes.proofs.Updates.{refused-leaves, refused-journals, refused-technician}
 use Rattle.plans.specs.declared.Plan.{Plan}
@@ -171,15 +172,20 @@ write-leaves d w a (suc s) f v n =
     rw (q, sensor-update x f v (suc s) (omega arith))
     (refused-leaves (suc s) (x .setup) f (firstWord (sensorRegister (suc s) x (f .offset)) v) (secondWord v) (contextOf (deviceIn d w a)) (rw q at n))
 
+-- the technician's number stays
+number-leaves : (d : Sonde) (o : ℕ) (x : Written) → (codeOf x ≡ 0 → ⊥) → sondeAfter d o x ≡ withSetup d o (setupAfter (setupAt d o) x)
+unfolding sondeAfter withTechnician withSetup withSensor
+number-leaves d o x n = ap (withTechnician (withSetup d o (setupAfter (setupAt d o) x))) (refused-technician (d .technician) x n)
+
 -- the write of a field that is refused: a sensor's, since the device's never is
 write-refused : (d : Sonde) (h : Header) (body w : List ℕ) (a : Arrival) (o : ℕ) (f : Field) (v : Value) → (codeOf (writeAt d w a o f v) ≡ 0 → ⊥)
     → carriedOut d h body w o (writeAt d w a o f v) ≡ answer Exception (refusalBody h (codeOf (writeAt d w a o f v))) (refusedLeaves d (Writing o f v)) w
-unfolding carriedOut sondeAfter writeBody withTechnician withSetup withSensor
+unfolding carriedOut writeBody
 write-refused d h body w a o f v n =
     rw (
       ne-eqb (codeOf (writeAt d w a o f v)) 0 n,
       refused-journals (writeAt d w a o f v) n,
-      refused-technician (d .technician) (writeAt d w a o f v) n,
+      number-leaves d o (writeAt d w a o f v) n,
       write-leaves d w a o f v n,
     )
     (go (isUpdate o (sensorAt d o) f v))

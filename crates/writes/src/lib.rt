@@ -152,7 +152,14 @@ fn write_field(sensor: u16, s: Setup, offset: u16, high: u16, low: u16, context:
 }
 
 // The write of a sensor's field that isn't read-only, its value in one word (`high`) or in two.
-fn write_sensor(sensor: u16, s: Setup, field: Field, high: u16, low: u16, context: Context) -> Written
+fn write_sensor(
+    sensor: u16,
+    s: Setup,
+    field: Field,
+    high: u16,
+    low: u16,
+    context: Context,
+) -> Written
     ensures { λ r. ⌜ r ≡ writeOf sensor s field high low context ⌝ }
 {
     let calibrating = s.procedure.calibrating;
