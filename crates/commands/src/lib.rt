@@ -1,7 +1,7 @@
 // The commands of a calibration, and what a write answers: refused by a code, the setup that a failed update leaves, the new setup, for an accepted
 // update the new setup and the entry to append, or the device's new technician number.
 ghost use mathlib.Core.Path.{_≡_};
-ghost use Rattle.commands.specs.Commands.{contextOf, updated, commanded, codeOf, setupAfter};
+ghost use Rattle.commands.specs.Commands.{contextOf, updated, commanded, codeOf, setupAfter, technicianAfter};
 use entries::Entry;
 use entries::entry_of;
 use methods::Verdict;
@@ -62,6 +62,16 @@ pub fn setup_after(w: Written, s: Setup) -> Setup
         Written::Stored(t) => t,
         Written::Updated(t, _) => t,
         Written::Technician(_) => s,
+    }
+}
+
+// The technician's number that an answer leaves of the one before.
+pub fn technician_after(w: Written, technician: u16) -> u16
+    ensures { λ r. ⌜ r ≡ technicianAfter technician w ⌝ }
+{
+    match w {
+        Written::Technician(n) => n,
+        _ => technician,
     }
 }
 

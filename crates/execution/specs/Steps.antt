@@ -8,43 +8,37 @@ use lib.ListN.{length, getD}
 use Rattle.journal.specs.Journal.{IsSensor}
 use Rattle.journal.specs.Words.{capacityOf}
 use Rattle.journal.specs.Stores.{appendsOf}
-use Rattle.sensors.specs.declared.Setup.{Setup}
 use Rattle.sensors.specs.declared.Sensor.{Sensor}
 use Rattle.registers.specs.declared.Device.{Device}
 use Rattle.modbus.specs.declared.Header.{Header}
-use Rattle.commands.specs.Commands.{codeOf, entriesOf}
+use Rattle.commands.specs.Commands.{codeOf, setupAfter, technicianAfter, entriesOf}
 use Rattle.commands.specs.declared.Written.{Written}
 use Rattle.commands.specs.declared.Written.the-variants.{Refused, Failed, Stored, Updated, Technician}
 use Rattle.state.specs.declared.Event.{Event}
 use Rattle.service.specs.Frame.{eventOf, writeBody}
 use Rattle.execution.specs.declared.Change.{Change}
-use Rattle.execution.specs.declared.Change.the-variants.{Setup as Changed, Technician as Named}
+use Rattle.execution.specs.declared.Change.the-variants.{Setup as Changed}
 use Rattle.execution.specs.declared.Effect.{Effect}
 
 pub record Step : Type 0 where
   pub event : Event
   pub body : List ℕ
   pub change : Change
+  pub technician : ℕ
   pub volume : List ℕ
 
-abbrev pub step : Event → List ℕ → Change → List ℕ → Step
-step event body change w = record { event = event; body = body; change = change; volume = w }
+abbrev pub step : Event → List ℕ → Change → ℕ → List ℕ → Step
+step event body change technician w = record { event = event; body = body; change = change; technician = technician; volume = w }
 
 -- what the code hands on of it; the rest is in the lent slices
 abbrev pub effectOf : Step → Effect
-effectOf x = record { event = x .event; size = length (x .body); change = x .change }
+effectOf x = record { event = x .event; size = length (x .body); change = x .change; technician = x .technician }
 
--- what a write changes, s being the setup of the sensor that it names
-abbrev pub changeOf : Setup → Written → Change
-changeOf s (Refused code) = Changed s
-changeOf s (Failed t) = Changed t
-changeOf s (Stored t) = Changed t
-changeOf s (Updated t e) = Changed t
-changeOf s (Technician n) = Named n
-
--- a write's
-abbrev pub writeStep : Header → List ℕ → List ℕ → Sensor → Written → Step
-writeStep h body w s y = step (eventOf (codeOf y)) (writeBody h body (codeOf y)) (changeOf (s .setup) y) (appendsOf w (entriesOf y))
+-- a write's, by the values of the device and of the sensor that it names
+abbrev pub writeStep : Header → List ℕ → List ℕ → Device → Sensor → Written → Step
+writeStep h body w e s y =
+    step (eventOf (codeOf y)) (writeBody h body (codeOf y)) (Changed (setupAfter (s .setup) y)) (technicianAfter (e .technician) y)
+    (appendsOf w (entriesOf y))
 
 -- an entry that is to be appended has room, and a sensor
 abbrev pub Appendable : List ℕ → Written → Type 0

@@ -1,5 +1,5 @@
 -- The code's steps leave what the definition of the frame call says, and a reply's body is short enough for a frame. Assumes nothing.
-use mathlib.Core.Path.{_≡_, refl, sym, ap}
+use mathlib.Core.Path.{_≡_, refl}
 use mathlib.Core.List.{List}
 use Prim.Native.Nat.{ℕ, _/_, _%_, _≤_}
 use lib.Dec.{lit≤}
@@ -11,44 +11,32 @@ use Rattle.registers.specs.Registers.{registerOf}
 use Rattle.plans.specs.declared.Plan.{Plan}
 use Rattle.plans.specs.declared.Plan.the-variants.{Bad, Foreign, BroadcastRead, Refused, Reading, Writing}
 use Rattle.plans.proofs.Plans.{Facts}
-use Rattle.state.specs.Sonde.{sensorAt, setupAt, withSensor, withSetup, withTechnician}
+use Rattle.state.specs.Sonde.{sensorAt, setupAt, withTechnician}
 use Rattle.state.specs.declared.Sonde.{Sonde}
-use Rattle.service.specs.Reads.{deviceIn, shownFrom, readingBody}
+use Rattle.service.specs.Reads.{deviceOf, deviceIn, shownFrom, readingBody}
 use Rattle.commands.specs.Commands.{codeOf}
-use Rattle.commands.specs.declared.Written.{Written}
-use Rattle.commands.specs.declared.Written.the-variants.{Refused as WriteRefused, Failed, Stored, Updated, Technician}
-use Rattle.service.specs.Frame.{Answer, answer, writtenBy, writeAt, sondeAfter, carriedOut, planned}
+use Rattle.service.specs.Frame.{Answer, answer, writtenBy, sondeAfter, carriedOut, planned}
 use Rattle.service.specs.declared.Arrival.{Arrival}
 use Rattle.service.proofs.Bodies.{refusal-sized, write-sized, read-sized}
-use Rattle.service.proofs.Kept.{with-setup-same}
 use Rattle.service.proofs.Registers.{shown-length, one-owner}
-use Rattle.execution.specs.Steps.{Step, changeOf}
+use Rattle.execution.specs.Steps.{Step}
 use Rattle.admission.specs.Steps.{ownerOf}
 use Rattle.frames.specs.Steps.{stepOf, changed}
 
 -- what a step leaves of a sonde, s being the sensor that was named
 abbrev pub leaves : Sonde → ℕ → Step → Answer
-leaves d s x = answer (x .event) (x .body) (changed d s (x .change)) (x .volume)
-
--- what a write changes is what the definition of the frame call says
-change-left : (d : Sonde) (o : ℕ) (y : Written) → changed d o (changeOf (sensorAt d o .setup) y) ≡ sondeAfter d o y
-unfolding sondeAfter setupAt withTechnician withSetup withSensor
-change-left d o (WriteRefused code) = refl
-change-left d o (Failed t) = refl
-change-left d o (Stored t) = refl
-change-left d o (Updated t e) = refl
-change-left d o (Technician n) = ap (λ (x : Sonde). withTechnician x n) (sym (with-setup-same d o))
+leaves d s x = answer (x .event) (x .body) (withTechnician (changed d s (x .change)) (x .technician)) (x .volume)
 
 -- is what the definition says
 pub steps-left : (d : Sonde) (h : Header) (body w : List ℕ) (a : Arrival) (p : Plan) → Facts body p
     → leaves d (ownerOf p) (stepOf (d .address) (deviceIn d w a) (sensorAt d (ownerOf p)) h body w p) ≡ planned d h body w a p
-unfolding carriedOut setupAt readingBody
+unfolding carriedOut sondeAfter setupAt readingBody deviceOf withTechnician
 steps-left d h body w a Bad f = refl
 steps-left d h body w a Foreign f = refl
 steps-left d h body w a BroadcastRead f = refl
 steps-left d h body w a (Refused code) f = refl
 steps-left d h body w a (Reading start count) f = rw (one-owner d (deviceIn d w a) start count (f .block))
-steps-left d h body w a (Writing o x v) f = rw (change-left d o (writeAt d w a o x v))
+steps-left d h body w a (Writing o x v) f = refl
 
 -- ---- the length of a body
 

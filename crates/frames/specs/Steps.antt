@@ -12,7 +12,7 @@ use Rattle.sensors.specs.declared.Sensor.{Sensor}
 use Rattle.registers.specs.declared.Device.{Device}
 use Rattle.plans.specs.declared.Plan.{Plan}
 use Rattle.plans.specs.declared.Plan.the-variants.{Bad, Foreign, BroadcastRead, Refused, Reading, Writing}
-use Rattle.state.specs.Sonde.{withSetup, withTechnician}
+use Rattle.state.specs.Sonde.{withSetup}
 use Rattle.state.specs.declared.Event.the-variants.{Uncounted, Bad as CountedBad, Good, Exception}
 use Rattle.state.specs.declared.Sonde.{Sonde}
 use Rattle.replies.specs.Reply.{replyOf}
@@ -20,17 +20,17 @@ use Rattle.service.specs.Frame.{planFor, refusalBody, writtenBy}
 use Rattle.reads.specs.Steps.{ownedBody}
 use Rattle.execution.specs.Steps.{Step, step, writeStep}
 use Rattle.execution.specs.declared.Change.{Change}
-use Rattle.execution.specs.declared.Change.the-variants.{Nothing, Setup, Technician}
+use Rattle.execution.specs.declared.Change.the-variants.{Nothing, Setup}
 use Rattle.frames.specs.declared.Served.{Served}
 
 -- what comes of a plan; own is the sonde's address, e has the device's values, s is the sensor that the plan names
 abbrev pub stepOf : ℕ → Device → Sensor → Header → List ℕ → List ℕ → Plan → Step
-stepOf own e s h body w Bad = step CountedBad [] Nothing w
-stepOf own e s h body w Foreign = step Uncounted [] Nothing w
-stepOf own e s h body w BroadcastRead = step Good [] Nothing w
-stepOf own e s h body w (Refused code) = step Exception (refusalBody h code) Nothing w
-stepOf own e s h body w (Reading start count) = step Good (ownedBody own e s start count) Nothing w
-stepOf own e s h body w (Writing owner f v) = writeStep h body w s (writtenBy owner e s f v)
+stepOf own e s h body w Bad = step CountedBad [] Nothing (e .technician) w
+stepOf own e s h body w Foreign = step Uncounted [] Nothing (e .technician) w
+stepOf own e s h body w BroadcastRead = step Good [] Nothing (e .technician) w
+stepOf own e s h body w (Refused code) = step Exception (refusalBody h code) Nothing (e .technician) w
+stepOf own e s h body w (Reading start count) = step Good (ownedBody own e s start count) Nothing (e .technician) w
+stepOf own e s h body w (Writing owner f v) = writeStep h body w e s (writtenBy owner e s f v)
 
 -- of what a frame carries
 unfoldable pub stepFor : ℕ → Device → Sensor → Carried → List ℕ → Step
@@ -38,10 +38,9 @@ stepFor own e s x w = stepOf own e s (headerOf (bodyOf x)) (bodyOf x) w (planFor
 
 -- what the code hands on of it; the rest is in the lent slices
 abbrev pub servedOf : Bool → Step → Served
-servedOf ascii x = record { event = x .event; length = length (replyOf ascii (x .body)); change = x .change }
+servedOf ascii x = record { event = x .event; length = length (replyOf ascii (x .body)); change = x .change; technician = x .technician }
 
--- the sonde with a change of the sensor that was named, or of the technician's number
+-- the sonde with a change of the sensor that was named
 abbrev pub changed : Sonde → ℕ → Change → Sonde
 changed d s Nothing = d
 changed d s (Setup x) = withSetup d s x
-changed d s (Technician n) = withTechnician d n

@@ -24,21 +24,23 @@ use service::Arrival;
 use state::Counters;
 use state::Event;
 
-// What comes of a frame: how it counts, the length of its reply, and what it changes.
+// What comes of a frame: how it counts, the length of its reply, what it changes of the sensors, and the technician's number that it leaves.
 pub struct Served {
     pub event: Event,
     pub length: u16,
     pub change: Change,
+    pub technician: u16,
 }
 
 // A frame that changes nothing but the counters.
-fn counted(event: Event, size: usize) -> Effect
-    ensures { λ r. ⌜ r ≡ record { event = event; size = size; change = Change.Nothing } ⌝ }
+fn counted(event: Event, size: usize, technician: u16) -> Effect
+    ensures { λ r. ⌜ r ≡ record { event = event; size = size; change = Change.Nothing; technician = technician } ⌝ }
 {
     Effect {
         event,
         size,
         change: Change::Nothing,
+        technician,
     }
 }
 
@@ -61,10 +63,14 @@ fn answer(
     ensures { λ _. ⌜ now (volume .exit) ≡ stepOf own (deviceOf counters technician (now (volume .entry)) arrival) sensor header (now (body .entry)) (now (volume .entry)) plan .volume ⌝ }
 {
     match plan {
-        Plan::Bad => counted(Event::Bad, 0),
-        Plan::Foreign => counted(Event::Uncounted, 0),
-        Plan::BroadcastRead => counted(Event::Good, 0),
-        Plan::Refused(code) => counted(Event::Exception, execution::refuse(reply, header, code)),
+        Plan::Bad => counted(Event::Bad, 0, technician),
+        Plan::Foreign => counted(Event::Uncounted, 0, technician),
+        Plan::BroadcastRead => counted(Event::Good, 0, technician),
+        Plan::Refused(code) => counted(
+            Event::Exception,
+            execution::refuse(reply, header, code),
+            technician,
+        ),
         Plan::Reading { start, count } => counted(
             Event::Good,
             reads::read(
@@ -75,6 +81,7 @@ fn answer(
                 start,
                 count,
             ),
+            technician,
         ),
         Plan::Writing {
             owner,
@@ -128,9 +135,11 @@ pub fn serve(
     );
     let event = effect.event;
     let change = effect.change;
+    let after = effect.technician;
     Served {
         event,
         length: replies::seal(arrival.ascii, reply, effect.size),
         change,
+        technician: after,
     }
 }

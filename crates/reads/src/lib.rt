@@ -26,13 +26,23 @@ pub fn device(c: Counters, technician: u16, volume: &[u16], arrival: Arrival) ->
     }
 }
 
+// A register by its owner, 0 for the device or a sensor's number, and its offset.
+fn register_of(owner: u16, device: Device, sensor: Sensor, offset: u16) -> u16
+    ensures { λ r. ⌜ r ≡ registerOf owner device sensor offset ⌝ }
+{
+    if owner == 0 {
+        return registers::device_register(device, offset);
+    }
+    registers::sensor_register(owner, sensor, offset)
+}
+
 // An owner's registers from an offset on, as many as there are words.
 fn fill(words: &mut [u16], owner: u16, device: Device, sensor: Sensor, offset: u16)
     requires { ⌜ offset + length (now words) ≤ 65536 ⌝ }
     ensures { λ _. ⌜ now (words .exit) ≡ shownFrom (registerOf owner device sensor) offset (length (now (words .entry))) ⌝ }
 {
     for i in 0..words.len() {
-        words[i] = registers::register_of(owner, device, sensor, offset + (i as u16));
+        words[i] = register_of(owner, device, sensor, offset + (i as u16));
     }
 }
 

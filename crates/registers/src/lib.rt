@@ -1,7 +1,7 @@
 // What each register shows: the device's and the sensors'.
 ghost use mathlib.Core.Path.{_≡_};
 ghost use Prim.Native.Nat.{_/_, _%_};
-ghost use Rattle.registers.specs.Registers.{modeOf, shownCoefficients, coefficientRegister, pointRegister, shownId, readingRegister, parameterRegister, headRegister, sensorRegister, deviceRegister, registerOf};
+ghost use Rattle.registers.specs.Registers.{modeOf, shownCoefficients, coefficientRegister, pointRegister, shownId, readingRegister, parameterRegister, headRegister, sensorRegister, deviceRegister};
 use coefficients::Coefficients;
 use methods::Points;
 use readings::Reading;
@@ -178,14 +178,4 @@ pub fn device_register(d: Device, offset: u16) -> u16
         9 => d.technician,
         _ => 0,
     }
-}
-
-// A register by its owner, 0 for the device or a sensor's number, and its offset.
-pub fn register_of(owner: u16, d: Device, s: Sensor, offset: u16) -> u16
-    ensures { λ r. ⌜ r ≡ registerOf owner d s offset ⌝ }
-{
-    if owner == 0 {
-        return device_register(d, offset);
-    }
-    sensor_register(owner, s, offset)
 }

@@ -5,3 +5,4 @@ pub mod Parts
 pub mod Owners
 pub mod Registers
 pub mod Refusals
+pub mod Technicians

@@ -4,3 +4,4 @@ pub mod Reads
 pub mod Frame
 pub mod Framings
 pub mod Refusals
+pub mod Technicians

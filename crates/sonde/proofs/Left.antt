@@ -1,5 +1,5 @@
--- What the frame call leaves, put together from what it was served with: the counters, and the sensor that the frame names
--- or the technician's number. Assumes nothing.
+-- What the frame call leaves, put together from what it was served with: the counters, the technician's number, and the sensor that the
+-- frame names. Assumes nothing.
 use mathlib.Core.Path.{_≡_, refl, sym, ap, subst, _∙_}
 use mathlib.Core.Bool.{Bool, true, false, cond}
 use mathlib.Core.List.{List}
@@ -27,7 +27,7 @@ use Rattle.service.specs.Framings.{AnswersBytes}
 use Rattle.service.specs.declared.Arrival.{Arrival}
 use Rattle.service.proofs.Parts.{frame-facts}
 use Rattle.execution.specs.Steps.{Step}
-use Rattle.execution.specs.declared.Change.the-variants.{Nothing, Setup as Changed, Technician as Named}
+use Rattle.execution.specs.declared.Change.the-variants.{Nothing, Setup as Changed}
 use Rattle.admission.specs.Steps.{numberBy, ownerOf}
 use Rattle.frames.specs.Steps.{stepFor, servedOf, changed}
 use Rattle.frames.specs.declared.Served.{Served}
@@ -76,7 +76,7 @@ module _ (d : Sonde) (frame reply w : List ℕ) (a : Arrival) (n : ℕ) (number 
   step = stepFor (d .address) (deviceIn d w a) (sensorAt d owner) x w
 
   -- the step is what the definition says
-  step-left : outcome (record { number = n; length = length (replyOf (a .ascii) (step .body)); sonde = countedBy (step .event) (changed d owner (step .change)) })
+  step-left : outcome (record { number = n; length = length (replyOf (a .ascii) (step .body)); sonde = countedBy (step .event) (withTechnician (changed d owner (step .change)) (step .technician)) })
       (overlay (replyOf (a .ascii) (step .body)) reply) (step .volume) ≡ frameOf d frame reply w a
   unfolding stepFor frameOf left answerOf
   step-left =
@@ -96,8 +96,8 @@ module _ (d : Sonde) (frame reply w : List ℕ) (a : Arrival) (n : ℕ) (number 
       (sent : reply' ≡ overlay (replyOf (a .ascii) (stepFor (d .address) (deviceIn d w a) s x w .body)) reply)
       (words : w' ≡ stepFor (d .address) (deviceIn d w a) s x w .volume) (count : c ≡ counted (r .event) (d .counters)) where
     -- a frame that changes the counters alone
-    pub nothing-left : r .change ≡ Nothing → outcome (record { number = n; length = r .length; sonde = sonde (d .address) (d .technician) (d .sensors) c }) reply' w' ≡ frameOf d frame reply w a
-    unfolding countedBy
+    pub nothing-left : r .change ≡ Nothing → outcome (record { number = n; length = r .length; sonde = sonde (d .address) (r .technician) (d .sensors) c }) reply' w' ≡ frameOf d frame reply w a
+    unfolding countedBy withTechnician
     nothing-left e =
         let v : r ≡ servedOf (a .ascii) step = served ∙ rw named in
         let h : step .change ≡ Nothing = sym (ap (λ (z : Served). z .change) v) ∙ e in
@@ -105,17 +105,9 @@ module _ (d : Sonde) (frame reply w : List ℕ) (a : Arrival) (n : ℕ) (number 
 
     -- one that stores a setup
     pub setup-left : (y : Setup) (t : Sensor) (i : ℕ) → r .change ≡ Changed y → t ≡ sensorWithSetup s y → i ≡ owner - 1
-        → outcome (record { number = n; length = r .length; sonde = sonde (d .address) (d .technician) (set (d .sensors) i t) c }) reply' w' ≡ frameOf d frame reply w a
-    unfolding countedBy withSetup withSensor
+        → outcome (record { number = n; length = r .length; sonde = sonde (d .address) (r .technician) (set (d .sensors) i t) c }) reply' w' ≡ frameOf d frame reply w a
+    unfolding countedBy withSetup withSensor withTechnician
     setup-left y t i e f g =
         let v : r ≡ servedOf (a .ascii) step = served ∙ rw named in
         let h : step .change ≡ Changed y = sym (ap (λ (z : Served). z .change) v) ∙ e in
         rw (count, sent, words, f, g, named, v) (rw h at step-left)
-
-    -- one that stores the technician's number
-    pub technician-left : (m : ℕ) → r .change ≡ Named m → outcome (record { number = n; length = r .length; sonde = sonde (d .address) m (d .sensors) c }) reply' w' ≡ frameOf d frame reply w a
-    unfolding countedBy withTechnician
-    technician-left m e =
-        let v : r ≡ servedOf (a .ascii) step = served ∙ rw named in
-        let h : step .change ≡ Named m = sym (ap (λ (z : Served). z .change) v) ∙ e in
-        rw (count, sent, words, named, v) (rw h at step-left)

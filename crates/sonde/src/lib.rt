@@ -91,6 +91,8 @@ pub extern "C" fn sonde_frame(
     let event = served.event;
     let after = counters.count(event);
     sonde.counters = after;
+    let technician = served.technician;
+    sonde.technician = technician;
     let length = served.length;
     let change = served.change;
     match change {
@@ -99,7 +101,6 @@ pub extern "C" fn sonde_frame(
             let t = s.with_setup(setup);
             sonde.sensors[i] = t;
         }
-        Change::Technician(n) => sonde.technician = n,
     }
     SondeFrame {
         number,

@@ -28,30 +28,33 @@ write-requires c κs =
     let p = c .before .before .before .before .before in
     let x = p .before .before .before .before .before in
     let f = rw (p .plan3 .given .1) at (x .pre .3) in
-    (search needs, f .long, x .pre .1, f .located .owner-most, search needs, rw (c .device2 .ensures) (device-counts _ _ _ _))
+    (search needs, f .long, x .pre .1, f .located .owner-most, f .located .device, search needs, rw (c .device2 .ensures) (device-counts _ _ _ _))
 
 returns : tie.Need-returns
-unfolding overlay
+unfolding overlay deviceOf
 returns c = simp (c .counted .ensures, c .before .enum-told .given .1) (refl, (refl, refl))
 
 returns-2 : tie.Need-returns-2
-unfolding overlay
+unfolding overlay deviceOf
 returns-2 c = simp (c .counted2 .ensures, c .before .enum-told2 .given .1) (refl, (refl, refl))
 
 returns-3 : tie.Need-returns-3
-unfolding overlay
+unfolding overlay deviceOf
 returns-3 c = simp (c .counted3 .ensures, c .before .enum-told3 .given .1) (refl, (refl, refl))
 
 returns-4 : tie.Need-returns-4
+unfolding deviceOf
 returns-4 c =
     let r = c .before .before .before in
     simp (c .counted4 .ensures, r .refuse .ensures .0, ← r .refuse .ensures .1, r .before .before .before .plan .given .1) (refl, (refl, refl))
 
 returns-5 : tie.Need-returns-5
+unfolding deviceOf
 returns-5 c =
     let r = c .before .before .before in
     let d = r .before in
-    simp (c .counted5 .ensures, r .read .ensures .0, ← r .read .ensures .1, ← d .device .ensures, d .before .before .before .before .plan2 .given .1) (refl, (refl, refl))
+    let e = rw (d .device .ensures) at (r .read .ensures) in
+    simp (c .counted5 .ensures, e .0, ← e .1, d .before .before .before .before .plan2 .given .1) (refl, (refl, refl))
 
 returns-6 : tie.Need-returns-6
 returns-6 c =

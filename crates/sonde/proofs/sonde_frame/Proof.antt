@@ -12,7 +12,7 @@ use Rattle.service.specs.Frame.{planFor, arrival}
 use Rattle.service.proofs.Parts.{agrees-parts, frame-facts}
 use Rattle.admission.specs.Steps.{numberBy}
 use Rattle.admission.proofs.Owners.{owner-below}
-use Rattle.sonde.proofs.Left.{refused-left, refused-bytes, passed, handed-on, step-bytes, nothing-left, setup-left, technician-left}
+use Rattle.sonde.proofs.Left.{refused-left, refused-bytes, passed, handed-on, step-bytes, nothing-left, setup-left}
 use borrow.Author.Needs.{needs}
 use Rattle.sonde.proofs.sonde_frame.Statement.{statement}
 use Rattle.sonde.proofs.sonde_frame.Tie as tie
@@ -123,32 +123,6 @@ returns-3 c =
           _ x _ (rw own) (r .serve .ensures .1 .1 .1),
     )
 
-returns-4 : tie.Need-returns-4
-unfolding agrees sensorAt
-returns-4 c =
-    let r = c .before .before .before .before .before .before .before .before in
-    let i = r .before .before .before .before .before in
-    let g = i .before in
-    let b = g .before in
-    let d = b .before .before .before in
-    let t = d .before .before in
-    let n = t .before in
-    let j = n .before in
-    let o = j .before .before in
-    let v = o .before in
-    let a = v .before .before .before .before .args in
-    let e : n .number-of .result ≡ numberBy (a .ascii) (length (a .reply .now)) (agrees (a .t1) (a .volume .now))
-    = n .number-of .ensures ∙ rw (v .is-valid .ensures, j .journal-agrees .ensures, o .opening .ensures) in
-    let f = handed-on (a .ascii) (a .frame .now) _ _ (b .body .ensures) (d .decode .ensures .1 .0) in
-    let own = rw (g .judge .ensures) at (i .sensor-index .ensures .0) in
-    let x = ap carriedBy f ∙ carried-again (a .ascii) (a .frame .now) in (
-      technician-left (a .t1) (a .frame .now) (a .reply .now) (a .volume .now) (arrival (a .clock) (a .ascii)) (n .number-of .result) e (t .if1 .left)
-          _ x (r .serve .result) _ _ _ _ (rw own)
-          (r .serve .ensures .0) (r .serve .ensures .1 .0) (r .serve .ensures .1 .1 .0) (c .before .before .before .count .ensures) _ (c .before .change2 .given .1),
-      step-bytes (a .t1) (a .frame .now) (a .reply .now) (a .volume .now) (arrival (a .clock) (a .ascii)) (n .number-of .result) e (t .if1 .left)
-          _ x _ (rw own) (r .serve .ensures .1 .1 .1),
-    )
-
 pub sonde-frame-spec : {M : Type 1} → statement M
 sonde-frame-spec =
     tie.close
@@ -177,11 +151,7 @@ sonde-frame-spec =
     element-set-from-t
     (λ c. search needs)
     (λ c. search needs)
-    (λ c. search needs)
     returns-2
     (λ c. search needs)
     (λ c. search needs)
-    returns-3
-    (λ c. search needs)
-    (λ c. search needs)
-    returns-4)
+    returns-3)

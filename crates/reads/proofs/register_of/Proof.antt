@@ -1,9 +1,9 @@
 -- Assumes nothing.
 use borrow.Author.Tests.{eq-eqb, ne-eqb}
 use Rattle.registers.specs.Registers.{registerOf}
 use borrow.Author.Needs.{needs}
-use Rattle.registers.proofs.register_of.Statement.{statement}
-use Rattle.registers.proofs.register_of.Tie as tie
+use Rattle.reads.proofs.register_of.Statement.{statement}
+use Rattle.reads.proofs.register_of.Tie as tie
 
 returns : tie.Need-returns
 unfolding registerOf
