@@ -443,6 +443,8 @@ def said(desk, registers, _):
                 equal(back, [updated >> 16, updated & 0xFFFF], what)
             elif name == "capacity":
                 equal((body[3], back), (7, figures), what)
+            elif name == "technician":
+                equal((offset, word), (9, figures[0]), what)
             elif body[1] == 3:
                 equal((offset, [float_of(back[:2]), float_of(back[2:])]), (10, figures), what)
             else:
@@ -459,8 +461,8 @@ def order(desk, registers, _):
     assert desk.write(206, 1) == 0x92 and desk.write(205, 0xE000) == 0 and desk.write(206, 1) == 0
     for first, then, body in (
         (1, 3, [1, 4, 0]),
-        (3, 2, [1, 3, 0, 9, 0, 0]),
-        (2, 0x80, [1, 16, 0, 8, 0, 2, 4, 0, 0, 0, 0]),
+        (3, 2, [1, 3, 0, 10, 0, 0]),
+        (2, 0x80, [1, 16, 0, 9, 0, 2, 4, 0, 0, 0, 0]),
         (0x80, 0xC2, [1, 6, 0, 2, 0, 0]),
         (0xC2, None, [1, 6, 0, 0, 0, 0]),
         (0x92, 0x84, [1, 16, 1, 0x9A, 0, 2, 4, 0x7F, 0x80, 0, 0]),
@@ -500,8 +502,8 @@ def past_the_end(desk, registers, _):
 
 def fields(registers):
     """Every field of the manual: register, words, type, access, codes of a write, what it is."""
-    for register, kind, what in registers.table("Register", "Type", "What it shows"):
-        yield numbers(register), kind, "R", [0xC2], what
+    for register, kind, access, what, given in registers.table("Register", "Type", "Access", "What it shows"):
+        yield numbers(register), kind, access, codes(given), what
     for offset, kind, access, sensors, what, given in registers.table("Offset", "Type", "Access", "Sensors"):
         for sensor in SENSORS if sensors == "all" else map(int, sensors.split(", ")):
             yield [100 * sensor + n for n in numbers(offset)], kind, access, codes(given), what
@@ -551,7 +553,7 @@ def access(desk, registers, _):
             desk.fresh()
         bad = desk.write(at[0], *{"word": [0xFFFF], "float": INFINITY, "time": [0xFFFF, 0xFFFF]}[kind])
         if letter != "R":
-            equal(bad, 0 if kind == "time" else 0x84, f"{name}, a {kind} that isn't listed or finite")
+            equal(bad, 0 if kind == "time" or at == [9] else 0x84, f"{name}, a {kind} that isn't listed or finite")
         seen.add(bad)
         good = desk.write(at[0], *([0xE000] if command else old))
         equal(good == 0, letter in "WM", f"{name}, {letter}")
@@ -769,6 +771,38 @@ def after_a_refusal(desk, registers, _):
     shows(-16.0, 7.0, "the trial after a restart")
 
 
+def who_calibrates(desk, registers, _):
+    """The number at 0xE001 goes into the entry; what leaves it, what clears it, and who can write it."""
+    for sentence in (
+        "the entry carries the number that stands there at its 0xE001, whichever stood at 0xE000",
+        "It stays until it is written anew, also after mode off, after a refused update and when a journal is begun",
+        "A restart makes it 0. Entries that are accepted then name nobody until a number is given",
+        "Functions 6, 16 .* and 22 write it, where a mask goes over the number that stands; a write at address 0 gives it to every sonde of the line",
+        "A write of registers 8 and 9 together is 0x80, one of 9 and 10 is 2",
+    ):
+        registers.says(sentence)
+
+    def technician(entry):
+        return desk.words()[64 + 24 * (entry - 1) + 3]
+
+    desk.fresh()
+    equal(desk.read(9), [0], "the number of a fresh sonde")
+    assert desk.write(9, 5) == 0 and desk.write(105, 0xE000) == 0 and desk.write(9, 0xFFFF) == 0
+    equal((desk.write(105, 0xE001), technician(1)), (0, 0xFFFF), "the number at 0xE001")
+    equal(desk.write(105, 0xE002), 0, "mode off")
+    equal((desk.calibrate(2, [0.0, 9.0]), desk.calibrate(3), technician(2)), (0x97, 0, 0xFFFF), "another sensor's, after a refused update")
+    equal(desk.frame(1, 16, 0, 9, 0, 1, 2, 0x12, 0x34), [1, 16, 0, 9, 0, 1], "function 16")
+    equal(desk.frame(1, 22, 0, 9, 0xFF, 0, 0, 0x56), [1, 22, 0, 9, 0xFF, 0, 0, 0x56], "function 22")
+    equal(desk.read(9), [0x1256], "the number after a mask")
+    equal((desk.write(8, 0, 1), desk.write(9, 0, 1), desk.read(9, 2), desk.read(9)), (0x80, 2, 2, [0x1256]), "registers 8 and 9, 9 and 10")
+    equal(desk.ask(f"frame 0 {hexadecimal(sealed([0, 6, 0, 9, 0, 8]), 2)}"), ["0"], "a write at address 0")
+    assert desk.call("begin 136") == 0
+    equal(desk.read(8, 2), [0, 8], "entries in use and the number after a begin")
+    assert desk.call("power-up 1") == 0
+    equal(desk.read(9), [0], "the number after a restart")
+    equal((desk.calibrate(4), technician(1)), (0, 0), "an entry after a restart")
+
+
 def restart(desk, registers, _):
     """Everything is changed, then the sonde is powered up: what differs from a fresh one's is what the manual says is kept."""
     kept, lost = (row[1].split(", ") for row in registers.table("At a restart", "What"))
@@ -785,6 +819,7 @@ def restart(desk, registers, _):
         "units": [133, 333],
         "level id": [340],
         "sentinels": [at + n for at in PARAMETERS for n in (5, 6)],
+        "technician's number": [9],
         "counters": [4, 5, 6],
         "measurements": [at + n for at in PARAMETERS for n in (0, 1, 4)],
     }
@@ -806,10 +841,10 @@ def restart(desk, registers, _):
     assert not any(desk.write(at, word) for at, word in ((133, 2), (333, 22), (340, 5)))
     assert not any(desk.write(at + 5, 0x4111, 0x2222) for at in PARAMETERS)
     desk.ask("frame 0 00")  # a bad frame
-    assert desk.read(9) == 2
+    assert desk.read(10) == 2 and desk.write(9, 7) == 0
     before = all_registers()
     changed = {register for register in every if before[register] != fresh[register]}
-    for name in ("mode", "method", "points", "next calibration", "units", "level id", "sentinels", "counters", "last calibration", "entries in use"):
+    for name in ("mode", "method", "points", "next calibration", "units", "level id", "sentinels", "technician's number", "counters", "last calibration", "entries in use"):
         assert changed >= set(places[name]), f"{name} was not changed"
     assert desk.call("power-up 1") == 0
     equal(desk.read(4, 3), [0, 0, 0], "counters")
@@ -923,6 +958,26 @@ def third(desk, _, archive):
             equal(entry[1:3] + entry[10:12], [sensor, method, 0, 0], "sensor, method and coefficient 3")
 
 
+def technicians(desk, _, archive):
+    """Word 3 of each entry of the worked volume is what the manual says, and may be anything; replay doesn't ask for it."""
+    archive.says("words 20..23 are 0, while word 3 may be anything")
+    archive.says("word 3 is 0; nothing else tells them from entries whose technician gave no number")
+    archive.says("A number has no part in replay")
+    worked = archive.worked()
+    said = re.findall(r"^\| (\d+) \| ([0-9A-F]{4}) \| technician (\d+) \|$", archive.text, re.M)
+    equal([(int(at), int(word, 16), int(name)) for at, word, name in said], [(at, worked[at], worked[at]) for at in (67, 91, 115)], "the technicians of the worked volume")
+    places = [100 * s + n for s in SENSORS for n in (1, 2, 10, 11, 12, 13)]
+    desk.load(worked)
+    assert desk.call("power-up 1") == 0
+    replayed = [desk.read(at) for at in places]
+    for number in (0, 1, 0xFFFF):
+        for at in (67, 91, 115):
+            worked[at] = number
+        desk.load(worked)
+        equal(desk.call("power-up 1"), 0, f"power-up with the technicians {number}")
+        equal([desk.read(at) for at in places], replayed, f"replay with the technicians {number}")
+
+
 def flips(desk, _, archive):
     """Every bit of the worked volume is flipped, one at a time. Unseen is a flip after which power-up takes the volume."""
     worked = archive.worked()
@@ -935,6 +990,7 @@ def flips(desk, _, archive):
     named("opening coefficients, 16..39", *range(16, 40))
     named("opening times, 40..47", *range(40, 48))
     for n, entry in enumerate(entries, 1):
+        named("technicians of the entries", entry + 3)
         named("times of the entries", entry + 4, entry + 5)
         given = "coefficients of entry 3, written directly" if n == 3 else "coefficients of entries 1 and 2, which their points give"
         named(given, *range(entry + 6, entry + 12))
@@ -993,9 +1049,9 @@ def row_of_volumes(desk, _, archive):
 CHECKS = {
     "REGISTERS.md": (
         *(checksum, layouts, ascii_checksum, lengths, bad_ascii, digits, ascii_exchange, said, order, broadcast, past_the_end),
-        *(existing, access, parameters, limits, readings, in_mode, calibration, refused_by_limits, after_a_refusal, restart),
+        *(existing, access, parameters, limits, readings, in_mode, calibration, refused_by_limits, who_calibrates, after_a_refusal, restart),
     ),
-    "ARCHIVE.md": (no_word_of_refused, rounding, names, sizes, no_coefficients, third, flips, either_framing, row_of_volumes),
+    "ARCHIVE.md": (no_word_of_refused, rounding, names, sizes, no_coefficients, third, technicians, flips, either_framing, row_of_volumes),
 }
 
 

@@ -6,6 +6,16 @@ fn answers(client: &mut Client) {
     client.ask(&[1, 3, 0, 0, 0, 1], &[1, 3, 2, 0, 3]);
 }
 
+/// The signal of a line that hangs up. Where it is ignored, as under nohup, a server goes on, and another signal ends it.
+fn hang_up() -> &'static str {
+    let status = fs::read_to_string("/proc/self/status").unwrap();
+    let ignored = status.lines().find_map(|line| line.strip_prefix("SigIgn:")).unwrap();
+    match u64::from_str_radix(ignored.trim(), 16).unwrap() & 1 {
+        0 => "HUP",
+        _ => "TERM",
+    }
+}
+
 #[test]
 fn a_link_names_the_line_and_goes_with_it() {
     let folder = Folder::new();
@@ -14,7 +24,7 @@ fn a_link_names_the_line_and_goes_with_it() {
     let client = Client::open(&folder.path("line"));
     client.0.try_lock().unwrap(); // as some clients do
     answers(&mut Client::open(&folder.path("line")));
-    assert_eq!(server.stop("HUP"), (0, String::new()));
+    assert_eq!(server.stop(hang_up()), (0, String::new()));
     assert_eq!(folder.names(), ["sonde.volume", "sonde.volume.lock"]);
 }
 
