@@ -1,5 +1,5 @@
 -- Number 4 doesn't look at whom entries and sonde name. Assumes nothing.
-use mathlib.Core.Path.{_≡_, refl}
+use mathlib.Core.Path.{_≡_}
 use mathlib.Core.List.{List}
 use Prim.Native.Nat.{ℕ}
 use native.Mathlib.Omega.{arith}
@@ -11,7 +11,7 @@ use Rattle.state.specs.Sonde.{sensorAt, setupAt, withTechnician, validSonde}
 use Rattle.state.specs.declared.Sonde.{Sonde}
 use Rattle.service.specs.Agrees.{openings, journalAgrees, agrees}
 use Rattle.service.specs.Calls.{powerUpOf, auditOf}
-use Rattle.service.specs.Technicians.{Unjudged, TechniciansUnjudged}
+use Rattle.service.specs.Technicians.{TechniciansUnjudged}
 
 module _ (w v : List ℕ) (h : EqualButTechnicians w v) where
   replays-same : replays v ≡ replays w

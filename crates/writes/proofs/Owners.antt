@@ -1,22 +1,16 @@
 -- A write by its field's owner: what a sensor's comes to, or the device's, which stores the technician's number and nothing else. Assumes nothing.
 use mathlib.Core.Path.{_≡_, refl}
-use mathlib.Core.Bool.{_&&_, not, cond}
-use mathlib.Core.List.{List, []}
-use Prim.Native.Nat.{ℕ, zero, suc, _≤_}
+use Prim.Native.Nat.{ℕ, _≤_}
 use native.Mathlib.Omega.{arith}
-use lib.Dec.{eqb}
 use borrow.Author.Tests.{ne-eqb}
-use Rattle.entries.specs.declared.Entry.{Entry}
 use Rattle.fields.specs.declared.Field.{Field}
 use Rattle.sensors.specs.declared.Setup.{Setup}
-use Rattle.commands.specs.Commands.{codeOf, setupAfter, technicianAfter, entriesOf, refusedUpdate, acceptedUpdate}
+use Rattle.commands.specs.Commands.{technicianAfter}
 use Rattle.commands.specs.declared.Context.{Context}
 use Rattle.commands.specs.declared.Written.{Written}
-use Rattle.commands.specs.declared.Written.the-variants.{Updated, Technician}
+use Rattle.commands.specs.declared.Written.the-variants.{Technician}
 use Rattle.writes.specs.Writes.{writeOf, deviceWritten, writeTo}
 use Rattle.writes.proofs.Outcomes.{Outcome, refused, failed, stored, update, write-outcome}
-use Rattle.writes.proofs.Laws.{Journalled, nothing, journalled}
-use Rattle.writes.proofs.Updates.{Update, update-facts, entries-told, refused-leaves}
 
 module _ (s : Setup) (f : Field) (high low : ℕ) (context : Context) where
   -- the device's
