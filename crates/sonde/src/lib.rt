@@ -77,6 +77,7 @@ pub extern "C" fn sonde_frame(
     let i = admission::sensor_index(judged);
     let s = sonde.sensors[i];
     let counters = sonde.counters;
+    let technician = sonde.technician;
     let served = frames::serve(
         judged,
         body,
@@ -84,15 +85,14 @@ pub extern "C" fn sonde_frame(
         volume,
         sonde.address,
         counters,
-        sonde.technician,
+        technician,
         s,
         Arrival { clock, ascii },
     );
     let event = served.event;
     let after = counters.count(event);
     sonde.counters = after;
-    let technician = served.technician;
-    sonde.technician = technician;
+    sonde.technician = served.technician;
     let length = served.length;
     let change = served.change;
     match change {
