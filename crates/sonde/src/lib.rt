@@ -75,9 +75,9 @@ pub extern "C" fn sonde_frame(
     let body = framing::body(ascii, frame, &decoded[..n]);
     let judged = admission::judge(sonde.address, body);
     let i = admission::sensor_index(judged);
-    let s = sonde.sensors[i];
     let counters = sonde.counters;
     let technician = sonde.technician;
+    let s = sonde.sensors[i];
     let served = frames::serve(
         judged,
         body,
@@ -98,7 +98,8 @@ pub extern "C" fn sonde_frame(
     match change {
         Change::Nothing => {}
         Change::Setup(setup) => {
-            let t = s.with_setup(setup);
+            let named = sonde.sensors[i];
+            let t = named.with_setup(setup);
             sonde.sensors[i] = t;
         }
     }

@@ -65,11 +65,18 @@ serve-requires c κs =
     let f = handed-on (a .ascii) (a .frame .now) _ _ (b .body .ensures) (d .decode .ensures .1 .0) in
     (ltb-false (length (a .reply .now)) (roomIn (a .ascii)) (q .0), rw f (carried-most (a .ascii) (a .frame .now)), agrees-parts (a .t1) (a .volume .now) (q .1) .volume-valid, g .judge .ensures)
 
+-- the place of the sensor that the frame names is below 4
+mul-named : tie.Need-mul-named
+mul-named c = omega (arith, c .before .before .before .before .before .before .before .before .before .before .before .before .before .sensor-index .ensures .1)
+
+element-copy-out-named : tie.Need-element-copy-out-named
+element-copy-out-named c = omega (arith, c .before .before .before .before .before .before .before .before .before .before .before .before .before .sensor-index .ensures .1)
+
 mul-t : tie.Need-mul-t
-mul-t c = omega (arith, c .before .before .before .before .before .before .before .before .before .before .before .before .before .before .sensor-index .ensures .1)
+mul-t c = omega (arith, c .before .before .before .before .before .before .before .before .before .before .before .before .before .before .before .sensor-index .ensures .1)
 
 element-set-from-t : tie.Need-element-set-from-t
-element-set-from-t c = omega (arith, c .before .before .before .before .before .before .before .before .before .before .before .before .before .before .sensor-index .ensures .1)
+element-set-from-t c = omega (arith, c .before .before .before .before .before .before .before .before .before .before .before .before .before .before .before .sensor-index .ensures .1)
 
 returns-2 : tie.Need-returns-2
 unfolding agrees sensorAt
@@ -100,7 +107,7 @@ returns-2 c =
 returns-3 : tie.Need-returns-3
 unfolding agrees sensorAt
 returns-3 c =
-    let r = c .before .before .before .before .before .before .before .before .before in
+    let r = c .before .before .before .before .before .before .before .before .before .before in
     let i = r .before .before .before .before .before in
     let g = i .before in
     let b = g .before in
@@ -118,7 +125,7 @@ returns-3 c =
     let x = ap carriedBy f ∙ carried-again (a .ascii) (a .frame .now) in (
       setup-left (a .t1) (a .frame .now) (a .reply .now) (a .volume .now) (arrival (a .clock) (a .ascii)) (n .number-of .result) e (t .if1 .left)
           _ x (r .serve .result) _ _ _ _ (rw own)
-          (r .serve .ensures .0) (r .serve .ensures .1 .0) (r .serve .ensures .1 .1 .0) (c .before .before .before .before .count .ensures) _ _ _ (c .before .before .change .given .1) (c .with-setup .ensures) own,
+          (r .serve .ensures .0) (r .serve .ensures .1 .0) (r .serve .ensures .1 .1 .0) (c .before .before .before .before .before .count .ensures) _ _ _ (c .before .before .before .change .given .1) (c .with-setup .ensures) own,
       step-bytes (a .t1) (a .frame .now) (a .reply .now) (a .volume .now) (arrival (a .clock) (a .ascii)) (n .number-of .result) e (t .if1 .left)
           _ x _ (rw own) (r .serve .ensures .1 .1 .1),
     )
@@ -146,6 +153,8 @@ sonde-frame-spec =
     (λ c κs. search needs)
     (λ c. search needs)
     (λ c. search needs)
+    mul-named
+    element-copy-out-named
     (λ c κs. search needs)
     mul-t
     element-set-from-t
