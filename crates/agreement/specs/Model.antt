@@ -99,6 +99,7 @@ extended j es = record { capacity = j .capacity; opening = j .opening; entries =
 -- "A write that meets no refusal is carried out on these, and an update adds its entry at the end of the list". One that is refused adds none and
 -- leaves its sensor's setup; document 02, wish 2: the book follows "this one exception", so that an update refused for its limits alone puts the
 -- candidate in the book's trial figures (`setupAfter`). Document 02, wish 3: a write to register 9 gives the book its number (`technicianAfter`)
+-- and leaves all setups, owner 0 being taken for the first, which is put back
 abbrev pub kept : Model → ℕ → Written → Model
 kept b o x =
     model (b .address) (technicianAfter (b .technician) x)

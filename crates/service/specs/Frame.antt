@@ -91,7 +91,8 @@ writeAt d w a o f v = writtenBy o (deviceIn d w a) (sensorAt d o) f v
 unfoldable pub isUpdate : ℕ → Sensor → Field → Value → Bool
 isUpdate o x f v = not (eqb o 0) && (eqb (f .offset) 5 && eqb (firstWord (sensorRegister o x (f .offset)) v) 0xE001)
 
--- what is stored is the owner's, the sensor's setup or the technician's number; what a refusal leaves too (`setupAfter`)
+-- what is stored is the owner's, the sensor's setup or the technician's number; what a refusal leaves too (`setupAfter`). A write of the device, owner
+-- 0, leaves all setups: `setupAt` and `withSetup` take 0 for the first sensor, which is put back as it was
 unfoldable pub sondeAfter : Sonde → ℕ → Written → Sonde
 sondeAfter d o x = withTechnician (withSetup d o (setupAfter (setupAt d o) x)) (technicianAfter (d .technician) x)
 
