@@ -8,7 +8,8 @@ use borrow.Author.Tests.{lt-ltb, le-ltb, ltb-true, ltb-false}
 use lib.Dec.{ltb}
 use lib.ListN.{length}
 use Rattle.words.specs.Bytes.{Bytes}
-use Rattle.ascii.specs.Ascii.{hexDigit, valueOf, digits, hexOf, spelt}
+use Rattle.words.specs.Digits.{hexDigit}
+use Rattle.ascii.specs.Ascii.{valueOf, digits, hexOf, spelt}
 use Rattle.ascii.proofs.Reading.{both}
 
 -- ---- one digit

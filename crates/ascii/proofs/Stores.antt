@@ -8,7 +8,8 @@ use lib.ListN.{length, getD, take, drop, set, length-append, length-set, drop-of
 use lib.Seq.{sets, set-comm, getD-set-other, drop-cons, getD-take, length-take-le, take-suc-set, drop-set-lt}
 use Rattle.words.specs.Overlay.{overlay}
 use Rattle.words.proofs.Stores.{sets-append, sets-overlay}
-use Rattle.ascii.specs.Ascii.{hexDigit, hexOf, lrcOf, asciiFramed}
+use Rattle.words.specs.Digits.{hexDigit}
+use Rattle.ascii.specs.Ascii.{hexOf, lrcOf, asciiFramed}
 
 -- a store below a run of stores
 pub set-sets : (v : List ℕ) (at i a : ℕ) (xs : List ℕ) → i < at → set (sets v at xs) i a ≡ sets (set v i a) at xs

@@ -8,7 +8,8 @@ use native.Mathlib.Omega.{arith}
 use borrow.Author.Tests.{eqb-true}
 use lib.Dec.{ltb, eqb}
 use lib.ListN.{length, getD, set}
-use Rattle.ascii.specs.Ascii.{hexDigit, valueOf}
+use Rattle.words.specs.Digits.{hexDigit}
+use Rattle.ascii.specs.Ascii.{valueOf}
 use Rattle.ascii.specs.Steps.{Values}
 use Rattle.ascii.proofs.Reading.{both}
 

@@ -5,6 +5,7 @@ use mathlib.Core.List.{List, [], _∷_, _++_}
 use Prim.Native.Nat.{ℕ, _+_, _-_, _*_, _/_, _%_}
 use lib.Dec.{leb, ltb, eqb}
 use lib.ListN.{length, getD, take, drop}
+use Rattle.words.specs.Digits.{hexDigit}
 
 -- ---- the checksum
 
@@ -18,10 +19,6 @@ unfoldable pub lrcOf : List ℕ → ℕ
 lrcOf body = (256 - sumOf body % 256) % 256
 
 -- ---- digits
-
--- the capital hexadecimal digit of 0 to 15: 0-9 from 48 on, A-F from 65 on
-unfoldable pub hexDigit : ℕ → ℕ
-hexDigit n = cond (ltb n 10) (48 + n) (55 + n)
 
 -- what a digit says; 16 for a character that is none
 unfoldable pub valueOf : ℕ → ℕ

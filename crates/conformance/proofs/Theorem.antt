@@ -6,7 +6,8 @@ use Rattle.words.specs.Mask.{maskedOf}
 use Rattle.rtu.specs.Crc.{crcBit, crcBits, crcByte, crcFrom, crcOf}
 use Rattle.words.specs.Overlay.{overlay}
 use Rattle.rtu.specs.Frame.{checksumOf, framed, bodyOf, isGood}
-use Rattle.ascii.specs.Ascii.{sumOf, lrcOf, hexDigit, valueOf, digits, hexOf, spelt, asciiFramed, charsOf, decodedBytes, asciiBody, enclosed, checked, asciiGood}
+use Rattle.words.specs.Digits.{hexDigit}
+use Rattle.ascii.specs.Ascii.{sumOf, lrcOf, valueOf, digits, hexOf, spelt, asciiFramed, charsOf, decodedBytes, asciiBody, enclosed, checked, asciiGood}
 use Rattle.framing.specs.Framing.{carriedIn, framedIn, roomIn}
 use Rattle.modbus.specs.Request.{readOf, writeOneOf, writeManyOf, writeMaskOf, requestOf}
 use Rattle.replies.specs.Reply.{readBody, writtenBody, markedOf, exceptionBody, replyOf}
@@ -29,11 +30,17 @@ use Rattle.writes.specs.Writes.{methodWritten, pointAt, withFloat, floatWritten
 use Rattle.plans.specs.Plans.{targetOf, readPlan, planOf}
 use Rattle.audit.specs.Audit.{replayed}
 use Rattle.state.specs.Sonde.{freshCounters, incremented, freshSonde, poweredSonde, sensorAt, setupAt, withSensor, withSetup, withTechnician, countedBy, addressValid, validSonde}
+use Rattle.journal.specs.Contents.{journalOf}
+use Rattle.columns.specs.Columns.{last, lastOrBlank, cells, number, hex, behind, joined}
+use Rattle.columns.specs.Text.{characters}
+use Rattle.lines.specs.Lines.{columnsOf, lineOf, linesOf}
+use Rattle.page.specs.Page.{pageOf}
+use Rattle.page.specs.Print.{printedOn, printOf}
 use Rattle.service.specs.Agrees.{openings, sameCalibrations, journalAgrees, agrees}
 use Rattle.service.specs.Calls.{beginOf, powerUpOf}
 use Rattle.service.specs.Reads.{deviceOf, registerAt, readingBody}
 use Rattle.service.specs.Frame.{sent, writeBody, writtenBy, sondeAfter, carriedOut, answerOf, left, frameOf}
-use Rattle.conformance.specs.Cases.{Cases, worked, told, begunWith, beginTold, asked, next, nextAscii, frameTold, inMode, tenAtEight, failed, calibrated}
+use Rattle.conformance.specs.Cases.{Cases, worked, told, begunWith, beginTold, asked, next, nextAt, nextAscii, frameTold, inMode, tenAtEight, failed, calibrated, onePoint, printTold, examplePage}
 
 pub cases : Cases
 unfolding crcBit crcBits crcByte crcFrom crcOf checksumOf framed bodyOf isGood overlay
@@ -49,7 +56,8 @@ unfolding crcBit crcBits crcByte crcFrom crcOf checksumOf framed bodyOf isGood o
     methodWritten pointAt withFloat floatWritten fieldWritten writeOf deviceWritten writeTo targetOf readPlan planOf
     freshCounters incremented freshSonde poweredSonde replayed sensorAt setupAt withSensor withSetup withTechnician countedBy addressValid validSonde
     openings sameCalibrations journalAgrees agrees beginOf powerUpOf deviceOf registerAt readingBody sent writeBody writtenBy sondeAfter carriedOut answerOf replyOf left frameOf
-    worked told begunWith beginTold asked next nextAscii frameTold inMode tenAtEight failed calibrated
+    journalOf last lastOrBlank cells number hex behind joined characters columnsOf lineOf linesOf pageOf printedOn printOf
+    worked told begunWith beginTold asked next nextAt nextAscii frameTold inMode tenAtEight failed calibrated onePoint printTold examplePage
 cases =
     record {
       crc-of-digits = refl;
@@ -86,4 +94,9 @@ cases =
       technician-not-given = refl;
       technician-cleared = refl;
       technician-kept = refl;
+      page-printed = refl;
+      page-longer = refl;
+      page-short = refl;
+      page-empty = refl;
+      page-unsound = refl;
     }

@@ -18,6 +18,8 @@ use Rattle.methods.specs.declared.Verdict.{Verdict}
 use Rattle.methods.specs.declared.Verdict.the-variants.{Accepted, OutsideLimits, NotFinite, Undefined}
 use Rattle.state.specs.Sonde.{freshSonde, setupAt}
 use Rattle.state.specs.declared.Sonde.{Sonde}
+use Rattle.columns.specs.Text.{characters}
+use Rattle.page.specs.Print.{Printed, printOf}
 use Rattle.service.specs.Calls.{Begun, beginOf, powerUpOf}
 use Rattle.service.specs.Frame.{Outcome, arrival, frameOf}
 
@@ -56,6 +58,10 @@ asked d volume frame = frameOf d frame (replicate 256 0) volume (arrival 7 false
 
 unfoldable pub next : Outcome → List ℕ → Outcome
 next o frame = asked (o .sonde) (o .volume) frame
+
+-- the same at another clock
+unfoldable pub nextAt : ℕ → Outcome → List ℕ → Outcome
+nextAt clock o frame = frameOf (o .sonde) frame (replicate 256 0) (o .volume) (arrival clock false)
 
 -- the same in ASCII
 unfoldable pub nextAscii : Outcome → List ℕ → Outcome
@@ -155,6 +161,34 @@ wordsFromNine = 0x01 ∷ 0x10 ∷ 0x00 ∷ 0x09 ∷ 0x00 ∷ 0x02 ∷ 0x04 ∷ 0
 unfoldable pub calibrated : Outcome
 calibrated = next (next (next (asked (freshSonde 1) (begunWith 88 .volume) technicianThree) modeOn) technicianSeven) update
 
+-- to sensor 1: method 1, one point; x1 = 1000; y1 = 1250
+abbrev pub byOnePoint : List ℕ
+byOnePoint = 0x01 ∷ 0x06 ∷ 0x00 ∷ 0x6A ∷ 0x00 ∷ 0x01 ∷ 0x68 ∷ 0x16 ∷ []
+
+abbrev pub thousandX1 : List ℕ
+thousandX1 = 0x01 ∷ 0x10 ∷ 0x00 ∷ 0x74 ∷ 0x00 ∷ 0x02 ∷ 0x04 ∷ 0x44 ∷ 0x7A ∷ 0x00 ∷ 0x00 ∷ 0xC0 ∷ 0x51 ∷ []
+
+abbrev pub largerY1 : List ℕ
+largerY1 = 0x01 ∷ 0x10 ∷ 0x00 ∷ 0x76 ∷ 0x00 ∷ 0x02 ∷ 0x04 ∷ 0x44 ∷ 0x9C ∷ 0x40 ∷ 0x00 ∷ 0x91 ∷ 0xBF ∷ []
+
+-- "A volume begun fresh, then one point (1000, 1250) by technician 7 at 1000"
+unfoldable pub onePoint : Outcome
+onePoint =
+    nextAt 1000 (next (next (next (next (asked (freshSonde 1) (begunWith 88 .volume) technicianSeven) modeOn) byOnePoint) thousandX1) largerY1) update
+
+-- what a print tells: its number, its length, then the whole page that was lent
+unfoldable pub printTold : Printed → List ℕ
+printTold p = p .number ∷ p .length ∷ p .page
+
+-- the page that the wish shows
+unfoldable pub examplePage : List ℕ
+examplePage =
+    characters "   0 1 -     0          0 00000000 3F800000 00000000\n"
+    ++ characters "   0 2 -     0          0 00000000 3F800000 00000000\n"
+    ++ characters "   0 3 -     0          0 00000000 00000000 00000000\n"
+    ++ characters "   0 4 -     0          0 00000000 3F800000 00000000\n"
+    ++ characters "   1 1 1     7       1000 00000000 3FA00000 00000000\n"
+
 pub record Cases : Type 0 where
   -- "CRC of "123456789" is 0x4B37"
   pub crc-of-digits : crcOf (0x31 ∷ 0x32 ∷ 0x33 ∷ 0x34 ∷ 0x35 ∷ 0x36 ∷ 0x37 ∷ 0x38 ∷ 0x39 ∷ []) ≡ 0x4B37
@@ -211,3 +245,10 @@ pub record Cases : Type 0 where
   -- "A power-up sets the register to 0"; a begin leaves it
   pub technician-cleared : powerUpOf 1 (calibrated .volume) .sonde .technician ≡ 0
   pub technician-kept : beginOf (calibrated .sonde) (replicate 88 0) .sonde .technician ≡ 7
+  -- document 02, wish 4: the page of its example, where it just fits and on a longer one, whose other bytes stay
+  pub page-printed : printTold (printOf (onePoint .volume) (replicate 265 7)) ≡ 0 ∷ 265 ∷ examplePage
+  pub page-longer : printTold (printOf (onePoint .volume) (replicate 267 7)) ≡ 0 ∷ 265 ∷ examplePage ++ (7 ∷ 7 ∷ [])
+  -- "7, a page buffer too short for all its lines, tried after 4"; nothing is written
+  pub page-short : printTold (printOf (onePoint .volume) (replicate 264 7)) ≡ 7 ∷ 0 ∷ replicate 264 7
+  pub page-empty : printTold (printOf (onePoint .volume) []) ≡ 7 ∷ 0 ∷ []
+  pub page-unsound : printTold (printOf (replicate 88 0) []) ≡ 4 ∷ 0 ∷ []

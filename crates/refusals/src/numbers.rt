@@ -1,4 +1,4 @@
-// The numbers that a call gives, in document 01's order.
+// The numbers that a call gives, in the order of documents 01 and 02.
 
 // Success; a frame that is refused by a code gives it too.
 pub const DONE: u8 = 0;
@@ -14,3 +14,5 @@ pub const DISAGREEMENT: u8 = 4;
 pub const NO_SENSOR: u8 = 5;
 // A raw that isn't finite.
 pub const RAW_NOT_FINITE: u8 = 6;
+// Page too short.
+pub const SHORT_PAGE: u8 = 7;

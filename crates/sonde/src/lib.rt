@@ -1,10 +1,12 @@
-// The six calls for programs in C, as include/sonde.h declares them. A slice is a pointer and a length there. The frame call is put together
+// The seven calls for programs in C, as include/sonde.h declares them. A slice is a pointer and a length there. The frame call is put together
 // here: a function in between that takes a sonde and hands it back would cost a copy of it.
 ghost use mathlib.Core.Path.{_≡_};
+ghost use Rattle.page.specs.Print.{printed, printOf};
 ghost use Rattle.service.specs.Calls.{begun, freshOf, beginOf, powerUpOf, measureOf, auditOf};
 ghost use Rattle.service.specs.Frame.{arrival, outcome, frameOf};
 ghost use Rattle.service.specs.Framings.{AnswersBytes};
 use execution::Change;
+use page::SondePrint;
 use refusals::numbers;
 use service::Arrival;
 use service::SondeAudit;
@@ -115,4 +117,11 @@ pub extern "C" fn sonde_audit(sonde: Sonde, volume: &[u16]) -> SondeAudit
     ensures { λ r. ⌜ r ≡ auditOf sonde (now (volume .entry)) ⌝ }
 {
     calls::audit(sonde, volume)
+}
+
+#[no_mangle]
+pub extern "C" fn sonde_print(volume: &[u16], page: &mut [u8]) -> SondePrint
+    ensures { λ r. ⌜ printed r (now (page .exit)) ≡ printOf (now (volume .entry)) (now (page .entry)) ⌝ }
+{
+    printing::print(volume, page)
 }

@@ -5,7 +5,8 @@ use Prim.Native.Nat.{ℕ, _≤_, _<_, _-_, _+_, _*_, _/_, _%_}
 use native.Mathlib.Omega.{arith}
 use lib.ListN.{length, getD, take, drop, length-set}
 use lib.Seq.{sets}
-use Rattle.ascii.specs.Ascii.{hexDigit, hexOf}
+use Rattle.words.specs.Digits.{hexDigit}
+use Rattle.ascii.specs.Ascii.{hexOf}
 use Rattle.ascii.proofs.Tables.{digitTable, digit-at}
 use Rattle.ascii.proofs.Stores.{spell-again, spell-none}
 use borrow.Author.Needs.{needs}
