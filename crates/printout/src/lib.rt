@@ -7,7 +7,7 @@ ghost use Rattle.words.specs.Bytes.{wordsOf};
 ghost use Rattle.words.specs.Overlay.{overlay};
 ghost use Rattle.printout.specs.Printout.{unsound, printoutOf};
 use refusals::numbers;
-use words::word_at;
+use words::word;
 
 // The most bytes of a file that is printed, and of the words of such a file; the most bytes of what is written.
 pub const MOST_BYTES: usize = 48128;
@@ -24,7 +24,7 @@ fn put_words(words: &mut [u16], bytes: &[u8])
     let count = bytes.len() / 2;
     let mut i = 0;
     while i < count {
-        words[i] = word_at(bytes, 2 * i);
+        words[i] = word(bytes[2 * i], bytes[2 * i + 1]);
         i += 1;
     }
 }

@@ -27,9 +27,9 @@ loop-holds c =
 
 loop-again : tie.Need-loop-again Inv-loop μ-loop
 loop-again c =
-    let l = c .before .before in
+    let l = c .before .before .before .before in
     let a = l .before .before .before .args in
-    (search needs, search needs, search needs, words-again (l .loop .words) (a .bytes .now) (l .loop .i) _ _ (search needs) (c .word-at .ensures) (l .loop .inv .3))
+    (search needs, search needs, search needs, words-again (l .loop .words) (a .bytes .now) (l .loop .i) _ _ (search needs) (c .word .ensures) (l .loop .inv .3))
 
 returns : tie.Need-returns Inv-loop μ-loop
 returns c =
@@ -44,6 +44,10 @@ put-words-spec =
     Inv-loop
     μ-loop
     loop-holds
+    (λ c. search needs)
+    (λ c. search needs)
+    (λ c. search needs)
+    (λ c. search needs)
     (λ c. search needs)
     (λ c κs. search needs)
     (λ c. search needs)
