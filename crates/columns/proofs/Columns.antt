@@ -11,7 +11,7 @@ use borrow.Author.Tests.{ltb-true, ltb-false, eqb-true}
 use lib.ListN.{length, take, drop, length-append}
 use lib.Seq.{take-at, drop-at}
 use Rattle.words.specs.Digits.{hexDigit}
-use Rattle.columns.specs.Columns.{last, lastOrBlank, cells, number, hex, behind, joined}
+use Rattle.columns.specs.Columns.{last, lastOrBlank, cells, number, hex, behind, spaced}
 
 -- two parts of equal lengths
 pub append-one : (x y a b : List ℕ) → length x ≡ length y → x ++ a ≡ y ++ b → (x ≡ y) × (a ≡ b)
@@ -131,12 +131,12 @@ behind-one (f ∷ fs) (g ∷ gs) l e =
     rw (s .0, behind-one fs gs lr (s .1))
 
 -- two lines of columns of the same widths
-pub joined-one : (fs gs : List (List ℕ)) → map length fs ≡ map length gs → joined fs ≡ joined gs → fs ≡ gs
-unfolding joined
-joined-one [] [] l e = refl
-joined-one [] (g ∷ gs) l e = absurd (let z : _≡_ {A = ℕ} 0 1 = cc in omega arith)
-joined-one (f ∷ fs) [] l e = absurd (let z : _≡_ {A = ℕ} 0 1 = cc in omega arith)
-joined-one (f ∷ fs) (g ∷ gs) l e =
+pub spaced-one : (fs gs : List (List ℕ)) → map length fs ≡ map length gs → spaced fs ≡ spaced gs → fs ≡ gs
+unfolding spaced
+spaced-one [] [] l e = refl
+spaced-one [] (g ∷ gs) l e = absurd (let z : _≡_ {A = ℕ} 0 1 = cc in omega arith)
+spaced-one (f ∷ fs) [] l e = absurd (let z : _≡_ {A = ℕ} 0 1 = cc in omega arith)
+spaced-one (f ∷ fs) (g ∷ gs) l e =
     let lf : length f ≡ length g = cc in
     let lr : map length fs ≡ map length gs = cc in
     let s = append-one f g (behind fs) (behind gs) lf e in

@@ -33,6 +33,6 @@ behind [] = 10 ∷ []
 behind (c ∷ cs) = 32 ∷ (c ++ behind cs)
 
 -- a line: columns "with one space between", then LF
-unfoldable pub joined : List (List ℕ) → List ℕ
-joined [] = 10 ∷ []
-joined (c ∷ cs) = c ++ behind cs
+unfoldable pub spaced : List (List ℕ) → List ℕ
+spaced [] = 10 ∷ []
+spaced (c ∷ cs) = c ++ behind cs

@@ -31,7 +31,7 @@ use Rattle.plans.specs.Plans.{targetOf, readPlan, planOf}
 use Rattle.audit.specs.Audit.{replayed}
 use Rattle.state.specs.Sonde.{freshCounters, incremented, freshSonde, poweredSonde, sensorAt, setupAt, withSensor, withSetup, withTechnician, countedBy, addressValid, validSonde}
 use Rattle.journal.specs.Contents.{journalOf}
-use Rattle.columns.specs.Columns.{last, lastOrBlank, cells, number, hex, behind, joined}
+use Rattle.columns.specs.Columns.{last, lastOrBlank, cells, number, hex, behind, spaced}
 use Rattle.columns.specs.Text.{characters}
 use Rattle.lines.specs.Lines.{columnsOf, lineOf, linesOf}
 use Rattle.page.specs.Page.{pageOf}
@@ -56,7 +56,7 @@ unfolding crcBit crcBits crcByte crcFrom crcOf checksumOf framed bodyOf isGood o
     methodWritten pointAt withFloat floatWritten fieldWritten writeOf deviceWritten writeTo targetOf readPlan planOf
     freshCounters incremented freshSonde poweredSonde replayed sensorAt setupAt withSensor withSetup withTechnician countedBy addressValid validSonde
     openings sameCalibrations journalAgrees agrees beginOf powerUpOf deviceOf registerAt readingBody sent writeBody writtenBy sondeAfter carriedOut answerOf replyOf left frameOf
-    journalOf last lastOrBlank cells number hex behind joined characters columnsOf lineOf linesOf pageOf printedOn printOf
+    journalOf last lastOrBlank cells number hex behind spaced characters columnsOf lineOf linesOf pageOf printedOn printOf
     worked told begunWith beginTold asked next nextAt nextAscii frameTold inMode tenAtEight failed calibrated onePoint printTold examplePage
 cases =
     record {

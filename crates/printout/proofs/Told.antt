@@ -10,7 +10,7 @@ use lib.ListN.{length, getD}
 use Rattle.floats.proofs.Bools.{both}
 use Rattle.words.specs.Bytes.{Bytes, wordsOf}
 use Rattle.words.specs.Digits.{hexDigit}
-use Rattle.columns.specs.Columns.{last, lastOrBlank, cells, number, joined}
+use Rattle.columns.specs.Columns.{last, lastOrBlank, cells, number, spaced}
 use Rattle.columns.specs.Text.{characters}
 use Rattle.lines.specs.Lines.{columnsOf, lineOf, linesOf}
 use Rattle.journal.specs.Contents.{journalOf}
@@ -23,7 +23,7 @@ use Rattle.printout.specs.Printout.{printable, unsound, printoutOf, Unso
 
 -- a page begins with a blank
 page-begins : (j : Journal) → getD (pageOf j) 0 0 ≡ 32
-unfolding pageOf linesOf lineOf columnsOf joined number cells lastOrBlank last hexDigit
+unfolding pageOf linesOf lineOf columnsOf spaced number cells lastOrBlank last hexDigit
 page-begins j = refl
 
 pub unsound-alone : UnsoundAlone
@@ -49,10 +49,10 @@ printable-valid : (b : List ℕ) → printable b ≡ true → valid (wordsOf b) 
 unfolding printable
 printable-valid b h = both (eqb (length b % 2) 0 && leb (length b) 48128) (valid (wordsOf b)) h .1
 
-printed : (b : List ℕ) → printable b ≡ true → printoutOf b ≡ pageOf (journalOf (wordsOf b))
+page-of : (b : List ℕ) → printable b ≡ true → printoutOf b ≡ pageOf (journalOf (wordsOf b))
 unfolding printoutOf
-printed b h = rw h
+page-of b h = rw h
 
 pub files-alike : FilesAlike
 files-alike a b x y p q =
-    rw (printed a p, printed b q) (print-alike (wordsOf a) (wordsOf b) (words-of a x) (words-of b y) (printable-valid a p) (printable-valid b q))
+    rw (page-of a p, page-of b q) (print-alike (wordsOf a) (wordsOf b) (words-of a x) (words-of b y) (printable-valid a p) (printable-valid b q))

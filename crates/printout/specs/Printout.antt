@@ -11,7 +11,7 @@ use Rattle.words.specs.Bytes.{Bytes, wordsOf}
 use Rattle.journal.specs.Contents.{journalOf}
 use Rattle.journal.specs.Valid.{valid}
 use Rattle.columns.specs.Text.{characters}
-use Rattle.page.specs.Alike.{Agree}
+use Rattle.page.specs.Alike.{AgreeOnPaper}
 use Rattle.page.specs.Page.{pageOf}
 
 -- a file that is printed
@@ -35,4 +35,4 @@ UnsoundAlone = (bytes : List ℕ) → (printoutOf bytes ≡ unsound) ↔ (printa
 abbrev pub FilesAlike : Type 0
 FilesAlike =
     (a b : List ℕ) → Bytes a → Bytes b → printable a ≡ true → printable b ≡ true
-    → (printoutOf a ≡ printoutOf b) ↔ Agree (journalOf (wordsOf a)) (journalOf (wordsOf b))
+    → (printoutOf a ≡ printoutOf b) ↔ AgreeOnPaper (journalOf (wordsOf a)) (journalOf (wordsOf b))

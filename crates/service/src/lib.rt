@@ -1,4 +1,4 @@
-// What the six calls take and hand back. The definitions of the calls are in specs/, their code in the crates above; there is none here.
+// What the six calls of document 01 take and hand back. The definitions of the calls are in specs/, their code in the crates above; there is none here.
 use state::Sonde;
 
 // When and how a frame came: the clock, in whole seconds, and its framing, ASCII or RTU.

@@ -1,5 +1,5 @@
 -- Laws of bytes and words: the bytes of two lists of words, how many bytes words are, words and back, and the bytes at the start of bytes. Assumes nothing.
-use mathlib.Core.Path.{_≡_, refl, ap}
+use mathlib.Core.Path.{_≡_, refl, ap, ap₂}
 use mathlib.Core.List.{List, [], _∷_, _++_}
 use Prim.Native.Nat.{ℕ, zero, suc, _+_, _*_, _/_, _%_, _<_}
 use native.Mathlib.Omega.{arith}
@@ -25,7 +25,7 @@ unfolding bytesOf wordsOf
 words-and-back [] = refl
 words-and-back (w ∷ ws) =
     let e : w / 256 * 256 + w % 256 ≡ w = omega arith in
-    rw (e, words-and-back ws)
+    ap₂ (λ (x : ℕ) (xs : List ℕ). x ∷ xs) e (words-and-back ws)
 
 take-below : (n : ℕ) (s : List ℕ) → ((i : ℕ) → getD s i 0 < 256) → (i : ℕ) → getD (take n s) i 0 < 256
 take-below zero s h i = lit< tt
