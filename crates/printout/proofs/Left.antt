@@ -1,11 +1,11 @@
 -- What is written on each way through the code, by its tests. Assumes nothing.
-use mathlib.Core.Path.{_≡_, refl, sym, ap, _∙_}
+use mathlib.Core.Path.{_≡_, refl, ap, _∙_}
 use mathlib.Core.Bool.{Bool, true, false, cond, _&&_}
 use mathlib.Core.List.{List}
-use Prim.Native.Nat.{ℕ, _+_, _*_, _%_, _<_, _≤_}
+use Prim.Native.Nat.{ℕ, _%_, _<_, _≤_}
 use native.Mathlib.Omega.{arith}
 use lib.Dec.{eqb, leb}
-use lib.ListN.{length, getD}
+use lib.ListN.{length}
 use borrow.Author.Tests.{eq-eqb, ne-eqb, le-leb, lt-leb}
 use Rattle.words.specs.Bytes.{wordsOf}
 use Rattle.words.specs.Overlay.{overlay}
@@ -15,7 +15,6 @@ use Rattle.columns.specs.Text.{characters}
 use Rattle.page.specs.Page.{pageOf}
 use Rattle.page.specs.Print.{Printed, printOf}
 use Rattle.page.proofs.Print.{print-invalid, print-done}
-use Rattle.printing.specs.Steps.{Room}
 use Rattle.printing.proofs.Left.{room}
 use Rattle.printing.proofs.Lines.{page-length}
 use Rattle.printout.specs.Printout.{printable, unsound, printoutOf}
