@@ -2,7 +2,7 @@
  * The register service of a water-quality sonde over Modbus RTU and ASCII: four sensors, their calibration, and the journal of every accepted
  * calibration.
  *
- * Six calls. Each is a function of its arguments alone: no call keeps anything, allocates, blocks or fails to return. The sonde goes in and
+ * Seven calls. Each is a function of its arguments alone: no call keeps anything, allocates, blocks or fails to return. The sonde goes in and
  * comes back by value; the host keeps it between calls. The volume (the words of the journal) is the host's memory and is lent for the call.
  * Calls on different sondes and volumes may run at the same time.
  *
@@ -34,6 +34,7 @@
  *     flash   at most 24576 bytes of code and constants
  *     stack   at most 3584 bytes for a call, with its arguments and its result. A memcpy that the dynamic linker binds late takes its own at first
  *     RAM     what the host keeps: a sonde 396 bytes, the volume 2 for each word (48128 for 1000 entries), the reply 256 (ASCII 513)
+ *             and where it prints, the page: 53 for each line (53212 for 1000 entries)
  */
 #ifndef SONDE_H
 #define SONDE_H
@@ -54,6 +55,10 @@ extern "C" {
 #define SONDE_ASCII_REPLY_BYTES 513 /* for an ASCII frame; the longest reply has 511 characters */
 #define SONDE_LEAST_WORDS 88        /* the least volume: capacity 1 */
 #define SONDE_MOST_WORDS 24064      /* words beyond these are never used: capacity 1000 */
+#define SONDE_MOST_PAGE_BYTES 53212 /* the longest page: 1000 entries */
+
+/* The page of a volume with so many entries in use: a line of 53 bytes for each sensor's opening, and for each entry. */
+#define SONDE_PAGE_BYTES(entries) (53 * (4 + (size_t)(entries)))
 
 /* ---- numbers: what a call is refused by. A call that is refused changes nothing. ---- */
 
@@ -64,7 +69,8 @@ enum {
     SONDE_SHORT_REPLY = 3,    /* frame: the reply buffer has fewer than 256 bytes (RTU) or 513 (ASCII) */
     SONDE_INVALID = 4,        /* the sonde or the volume is invalid, or the calibrations in force aren't the volume's, bit for bit */
     SONDE_NO_SENSOR = 5,      /* measure: the sensor isn't 1..4 */
-    SONDE_NOT_FINITE = 6      /* measure, present: a raw value that is read isn't finite */
+    SONDE_NOT_FINITE = 6,     /* measure, present: a raw value that is read isn't finite */
+    SONDE_SHORT_PAGE = 7      /* print: the page has fewer bytes than SONDE_PAGE_BYTES of the entries in use */
 };
 
 /* ---- the sonde. A host copies it and need not look inside; a sonde that it builds by hand has to be valid (number 4). ---- */
@@ -115,6 +121,7 @@ typedef struct {
 typedef struct { uint8_t number; Sonde sonde; } SondeMade;
 typedef struct { uint8_t number; uint16_t length; Sonde sonde; } SondeFrame;
 typedef struct { uint8_t number; uint16_t entries; } SondeAudit;
+typedef struct { uint8_t number; uint32_t length; } SondePrint;
 
 /* ---- the calls ---- */
 
@@ -158,6 +165,20 @@ SondeFrame sonde_frame(Sonde sonde, const uint8_t *frame, size_t frame_len, uint
 
 /* Whether the sonde and its volume are valid and agree: 0 with the entries in use, or 4 with 0. Changes nothing. */
 SondeAudit sonde_audit(Sonde sonde, const uint16_t *volume, size_t words);
+
+/*
+ * The journal on paper: a line for the opening of each sensor, 1 to 4, then one for each entry by its index. `length` bytes of the page are written,
+ * SONDE_PAGE_BYTES of the entries in use, and the bytes past them stay. It takes no sonde, prints a valid volume of any length and changes none.
+ * Refused by 4 (the volume alone is looked at), then 7; the length is then 0, and the page stays as it was.
+ *
+ * A line is 52 characters and LF, with one space between its columns: index (4 wide), sensor (1), method (1), technician (5), time (10) and the three
+ * coefficients (8 each). Numbers are decimal, right-aligned and without leading zeros; a coefficient is the bits of its float, in capital hexadecimal
+ * digits. An opening has index 0, method "-" and technician 0. There is no header. Sensor 1, begun fresh and then calibrated at 1000 by technician 7,
+ * with the point (1000, 1250):
+ *        0 1 -     0          0 00000000 3F800000 00000000
+ *        1 1 1     7       1000 00000000 3FA00000 00000000
+ */
+SondePrint sonde_print(const uint16_t *volume, size_t words, uint8_t *page, size_t page_len);
 
 #ifdef __cplusplus
 }
