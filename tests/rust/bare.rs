@@ -6,7 +6,7 @@
 use core::error::Error as _;
 use core::ffi::c_int;
 use core::panic::PanicInfo;
-use sonde::{Arrival, Error, Sonde, ASCII_REPLY_BYTES};
+use sonde::{page_bytes, print, Arrival, Error, Sonde, ASCII_REPLY_BYTES};
 
 #[link(name = "c")]
 extern "C" {
@@ -39,13 +39,25 @@ fn is_answered() -> bool {
     rtu && reply(b":010300000001FB\r\n", &mut buffer, Arrival::ascii(0)) == Ok(b":0103020003F7\r\n")
 }
 
+/// The opening of sensor 3, on the page of a journal without entries.
+const LEVEL_LINE: &[u8] = b"   0 3 -     0          0 00000000 00000000 00000000\n";
+
+fn is_printed() -> Result<bool, Error> {
+    let mut volume = [0; 88];
+    Sonde::fresh(1)?.begin(&mut volume)?;
+    let mut page = [0xAA; page_bytes(0) + 1];
+    let lines = print(&volume, &mut page)?;
+    let whole = lines.len() == page_bytes(0) && lines.chunks(LEVEL_LINE.len()).nth(2) == Some(LEVEL_LINE);
+    Ok(whole && page[page_bytes(0)] == 0xAA && print(&volume, &mut []) == Err(Error::ShortPage))
+}
+
 #[no_mangle]
 pub extern "C" fn main() -> c_int {
     let refused = Sonde::fresh(0).map(|_| ()).unwrap_err();
-    if refused != Error::BadAddress || refused.source().is_some() || !is_answered() {
+    if refused != Error::BadAddress || refused.source().is_some() || !is_answered() || is_printed() != Ok(true) {
         return 1;
     }
-    let told = b"a host without std was answered\n";
+    let told = b"a host without std was answered, and has printed\n";
     // SAFETY: the bytes are valid for their length.
     (unsafe { write(1, told.as_ptr(), told.len()) } != told.len() as isize).into()
 }

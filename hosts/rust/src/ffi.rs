@@ -125,6 +125,14 @@ pub struct Audit {
     pub entries: u16,
 }
 
+/// What a print hands back.
+#[repr(C)]
+#[derive(Clone, Copy, Debug)]
+pub struct Print {
+    pub number: u8,
+    pub length: u32,
+}
+
 extern "C" {
     pub fn sonde_fresh(address: u8) -> Made;
     pub fn sonde_begin(sonde: Sonde, volume: *mut u16, words: usize) -> Made;
@@ -142,4 +150,5 @@ extern "C" {
         ascii: bool,
     ) -> Frame;
     pub fn sonde_audit(sonde: Sonde, volume: *const u16, words: usize) -> Audit;
+    pub fn sonde_print(volume: *const u16, words: usize, page: *mut u8, page_len: usize) -> Print;
 }

@@ -1,7 +1,7 @@
 //! The register service of a water-quality sonde, for hosts in Rust: a safe face over the proved library's C interface.
 //!
-//! The host owns the [`Sonde`] and lends the volume (the words of the calibration journal) and the reply buffer. No call keeps
-//! anything, allocates or blocks.
+//! The host owns the [`Sonde`] and lends the volume (the words of the calibration journal), the reply buffer and the page that a journal is
+//! printed on. No call keeps anything, allocates or blocks.
 //!
 //! ```
 //! use sonde::{Arrival, Sonde, REPLY_BYTES};
@@ -77,8 +77,20 @@ pub const ASCII_REPLY_BYTES: usize = 513;
 pub const LEAST_WORDS: usize = 88;
 /// Words beyond these are never used: a journal of 1000 calibrations.
 pub const MOST_WORDS: usize = 24064;
+/// The longest page: a journal of 1000 calibrations.
+pub const MOST_PAGE_BYTES: usize = page_bytes(1000);
 
-/// Why a call was refused; the value is the number of document 01. A call that is refused changes nothing.
+/// The page of a volume with so many entries in use: a line of 53 bytes for the opening of each sensor, and for each entry.
+///
+/// ```
+/// assert_eq!(sonde::page_bytes(1), 265);
+/// assert_eq!(sonde::MOST_PAGE_BYTES, 53212);
+/// ```
+pub const fn page_bytes(entries: u16) -> usize {
+    53 * (4 + entries as usize)
+}
+
+/// Why a call was refused; the value is the number of documents 01 and 02. A call that is refused changes nothing.
 ///
 /// ```
 /// use sonde::{Error, Sonde};
@@ -101,6 +113,8 @@ pub enum Error {
     NoSensor = 5,
     /// Measure: a raw value that is read isn't finite.
     NotFinite = 6,
+    /// Print: the page has fewer than [`page_bytes`] of the entries in use.
+    ShortPage = 7,
 }
 
 impl fmt::Display for Error {
@@ -112,6 +126,7 @@ impl fmt::Display for Error {
             Error::Invalid => "the volume is damaged, or is not the one of this sonde",
             Error::NoSensor => "the sensor is not 1 to 4",
             Error::NotFinite => "a raw value is not finite",
+            Error::ShortPage => "the page is too short for all lines of the journal",
         })
     }
 }
@@ -128,6 +143,7 @@ fn done(number: u8) -> Result<(), Error> {
         4 => Err(Error::Invalid),
         5 => Err(Error::NoSensor),
         6 => Err(Error::NotFinite),
+        7 => Err(Error::ShortPage),
         _ => panic!("the library gave the number {number}, which this crate doesn't know"),
     }
 }
@@ -321,4 +337,52 @@ impl Sonde {
         let audit = unsafe { ffi::sonde_audit(self.0, volume.as_ptr(), volume.len()) };
         done(audit.number).map(|()| audit.entries)
     }
+}
+
+/// The journal on paper: a line for the opening of each sensor, 1 to 4, then one for each entry by its index. Hands back the lines, each of 52
+/// characters and LF; the bytes of the page past them stay. It takes no sonde, and a valid volume of any length.
+///
+/// A line has the columns index (4 wide), sensor (1), method (1), technician (5), time (10) and three coefficients (8 each), with one space
+/// between. Numbers are right-aligned, and a coefficient is the bits of its float in hexadecimal digits. An opening has index 0, method `-` and
+/// technician 0.
+///
+/// ```
+/// use sonde::{page_bytes, print, Arrival, Error, Sonde, ASCII_REPLY_BYTES};
+///
+/// let mut volume = [0; 88];
+/// let mut sonde = Sonde::fresh(1)?;
+/// sonde.begin(&mut volume)?;
+///
+/// // Technician 7 calibrates sensor 1 by one point, 1000 in a standard of 1250.
+/// let mut buffer = [0; ASCII_REPLY_BYTES];
+/// for request in [
+///     ":010600090007E9\r\n",
+///     ":01060069E000B0\r\n",
+///     ":0106006A00018E\r\n",
+///     ":01100074000204447A0000B7\r\n",
+///     ":01100076000204449C400053\r\n",
+///     ":01060069E001AF\r\n",
+/// ] {
+///     sonde.frame(request.as_bytes(), &mut buffer, &mut volume, Arrival::ascii(1000))?;
+/// }
+///
+/// let mut page = [0; page_bytes(1)];
+/// let lines = print(&volume, &mut page)?;
+/// assert_eq!(
+///     lines,
+///     b"   0 1 -     0          0 00000000 3F800000 00000000\n\
+///       \x20  0 2 -     0          0 00000000 3F800000 00000000\n\
+///       \x20  0 3 -     0          0 00000000 00000000 00000000\n\
+///       \x20  0 4 -     0          0 00000000 3F800000 00000000\n\
+///       \x20  1 1 1     7       1000 00000000 3FA00000 00000000\n"
+/// );
+///
+/// assert_eq!(print(&volume, &mut page[1..]), Err(Error::ShortPage));
+/// assert_eq!(print(&volume[..87], &mut page), Err(Error::Invalid));
+/// # Ok::<(), Error>(())
+/// ```
+pub fn print<'a>(volume: &[u16], page: &'a mut [u8]) -> Result<&'a [u8], Error> {
+    // SAFETY: the slices are valid for their lengths, lent for the call, and can't overlap.
+    let printed = unsafe { ffi::sonde_print(volume.as_ptr(), volume.len(), page.as_mut_ptr(), page.len()) };
+    done(printed.number).map(|()| &page[..printed.length as usize])
 }

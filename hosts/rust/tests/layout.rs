@@ -98,6 +98,7 @@ fn of_source() -> Layout {
         "SondeMade",
         "SondeFrame",
         "SondeAudit",
+        "SondePrint",
     ];
     let layout = |name: &str| (measure(name, &structs).0, place(&structs[name], &structs).2);
     shared.into_iter().map(|name| (header_name(name), layout(name))).collect()
@@ -160,6 +161,7 @@ fn of_bindings() -> Layout {
     of!("SondeMade", Made: number sonde);
     of!("SondeFrame", Frame: number length sonde);
     of!("SondeAudit", Audit: number entries);
+    of!("SondePrint", Print: number length);
     layout
 }
 
