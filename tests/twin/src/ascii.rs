@@ -5,7 +5,7 @@ pub const DECODED_MOST: usize = 255;
 
 /// What a digit stands for, by its character; `NO_DIGIT` for all others.
 const VALUES: [u8; 256] = values();
-const DIGITS: [u8; 16] = *b"0123456789ABCDEF";
+pub const DIGITS: [u8; 16] = *b"0123456789ABCDEF";
 const NO_DIGIT: u8 = 0xFF;
 
 const fn values() -> [u8; 256] {
