@@ -8,6 +8,7 @@ use crate::library;
 use crate::random::Random;
 use sonde::ffi;
 use twin::framing::{Framing, Room};
+use twin::page::LINE_BYTES;
 use twin::Sonde;
 
 /// The sonde and the volume, of either implementation.
@@ -47,6 +48,10 @@ const RUNS: [(u16, u16); 17] = [
 /// Registers up to the end of the last run.
 pub const IMAGE: usize = 438;
 pub const REPLY_MOST: usize = 600;
+/// Bytes of the longest page that is lent.
+pub const PAGE_MOST: usize = 54_000;
+/// Bytes behind a page that is lent, which have to stay.
+const BEHIND_PAGE: usize = 64;
 
 impl Both {
     /// Fresh sondes of address 1, and a volume of random words.
@@ -82,6 +87,8 @@ impl Both {
 pub struct Comparison {
     twin_reply: Vec<u8>,
     library_reply: Vec<u8>,
+    twin_page: Vec<u8>,
+    library_page: Vec<u8>,
     poison: Vec<u8>,
     twin_words: Vec<u16>,
     library_words: Vec<u16>,
@@ -111,6 +118,25 @@ fn differ_bytes(what: &str, twin: &[u8], library: &[u8]) -> Result<(), String> {
     ))
 }
 
+/// Shows the line of the first byte that differs.
+fn differ_page(twin: &[u8], library: &[u8]) -> Result<(), String> {
+    let Some(byte) = (0..twin.len()).find(|&byte| twin[byte] != library[byte]) else {
+        return Ok(());
+    };
+    let line = |page: &[u8]| {
+        page.chunks(LINE_BYTES)
+            .nth(byte / LINE_BYTES)
+            .unwrap_or_default()
+            .escape_ascii()
+            .to_string()
+    };
+    Err(format!(
+        "the page differs at byte {byte}\n  twin:    \"{}\"\n  library: \"{}\"",
+        line(twin),
+        line(library)
+    ))
+}
+
 fn differ_sonde(what: &str, twin: &Sonde, library: &ffi::Sonde) -> Result<(), String> {
     match difference(twin, &from_library(library)) {
         None => Ok(()),
@@ -134,7 +160,9 @@ impl Comparison {
         Comparison {
             twin_reply: vec![0; REPLY_MOST],
             library_reply: vec![0; REPLY_MOST],
-            poison: vec![0; REPLY_MOST],
+            twin_page: Vec::new(),
+            library_page: Vec::new(),
+            poison: Vec::new(),
             twin_words: Vec::new(),
             library_words: Vec::new(),
             registers: [0; IMAGE],
@@ -143,7 +171,7 @@ impl Comparison {
         }
     }
 
-    /// Runs the call on both and compares: answer, whole reply buffer, whole volume, every field of the sonde, every register.
+    /// Runs the call on both and compares: answer, whole reply buffer or page, whole volume, every field of the sonde, every register.
     pub fn run(&mut self, both: &mut Both, call: &Call, random: &mut Random) -> Result<Answer, String> {
         let answer = self.execute(both, call, random)?;
         differ_sonde("the sonde", &both.twin, &both.library)?;
@@ -170,7 +198,7 @@ impl Comparison {
                 let number = twin::begin(twin, &mut twin_volume[..words]);
                 let made = library::begin(*library, &mut library_volume[..words]);
                 *library = made.sonde;
-                agree(Answer::new(number, 0), Answer::new(made.number, 0))
+                agree(Answer::of(number), Answer::of(made.number))
             }
             Call::Measure {
                 sensor,
@@ -181,7 +209,7 @@ impl Comparison {
                 let number = twin::measure(twin, sensor, present, first, second);
                 let made = library::measure(*library, sensor, present, first, second);
                 *library = made.sonde;
-                agree(Answer::new(number, 0), Answer::new(made.number, 0))
+                agree(Answer::of(number), Answer::of(made.number))
             }
             Call::Audit { words } => {
                 let (number, entries) = twin::audit(twin, &twin_volume[..words]);
@@ -189,10 +217,33 @@ impl Comparison {
                 agree(Answer::new(number, entries), Answer::new(library.number, library.entries))
             }
             Call::Frame(ref request) => self.frame(both, request, random),
+            Call::Print { words, page } => self.print(both, words, page, random),
         }
     }
 
+    fn print(&mut self, both: &Both, words: usize, page: usize, random: &mut Random) -> Result<Answer, String> {
+        self.poison.resize(page + BEHIND_PAGE, 0);
+        random.fill_bytes(&mut self.poison);
+        self.twin_page.clone_from(&self.poison);
+        self.library_page.clone_from(&self.poison);
+        let (number, length) = twin::print(&both.twin_volume[..words], &mut self.twin_page[..page]);
+        let library = library::print(&both.library_volume[..words], &mut self.library_page[..page]);
+        let answer = agree(Answer::new(number, length), Answer::new(library.number, library.length))?;
+        differ_page(&self.twin_page, &self.library_page)?;
+        let past = length as usize;
+        if self.twin_page[past..] != self.poison[past..] {
+            return Err(format!("both have written past the page's lines ({answer:?})"));
+        }
+        Ok(answer)
+    }
+
+    /// The page that was printed last, by the library.
+    pub fn page(&self, answer: Answer) -> &[u8] {
+        &self.library_page[..answer.length as usize]
+    }
+
     fn frame(&mut self, both: &mut Both, request: &Request, random: &mut Random) -> Result<Answer, String> {
+        self.poison.resize(REPLY_MOST, 0);
         random.fill_bytes(&mut self.poison);
         self.twin_reply.copy_from_slice(&self.poison);
         self.library_reply.copy_from_slice(&self.poison);
@@ -263,7 +314,7 @@ impl Comparison {
         let answer = self
             .frame(both, &sent, random)
             .map_err(|difference| format!("in {framing:?}: {difference}"))?;
-        Ok((answer, self.library_reply[..answer.length.into()].to_vec()))
+        Ok((answer, self.library_reply[..answer.length as usize].to_vec()))
     }
 
     /// Reads every register on copies of both, and compares replies, sondes and volumes after it.
@@ -312,7 +363,7 @@ pub fn read_request(address: u8, start: u16, count: u16) -> [u8; 8] {
 
 /// Takes over the sonde of fresh or power-up: compared even if refused, it goes on only if made.
 fn make(both: &mut Both, (number, sonde): (u8, Sonde), library: ffi::Made) -> Result<Answer, String> {
-    let answer = agree(Answer::new(number, 0), Answer::new(library.number, 0))?;
+    let answer = agree(Answer::of(number), Answer::of(library.number))?;
     differ_sonde("the sonde handed back", &sonde, &library.sonde)?;
     if number == 0 {
         both.twin = sonde;

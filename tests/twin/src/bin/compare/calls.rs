@@ -12,6 +12,7 @@ pub enum Kind {
     Measure,
     Frame,
     Audit,
+    Print,
 }
 
 /// `words` is how much of the volume is lent, from its beginning.
@@ -37,6 +38,11 @@ pub enum Call {
     Audit {
         words: usize,
     },
+    /// `page` is the bytes of the page.
+    Print {
+        words: usize,
+        page: usize,
+    },
 }
 
 /// A frame with the framing that the host names, and the bytes of the reply buffer.
@@ -60,6 +66,7 @@ impl Call {
             Call::Measure { .. } => Kind::Measure,
             Call::Frame(_) => Kind::Frame,
             Call::Audit { .. } => Kind::Audit,
+            Call::Print { .. } => Kind::Print,
         }
     }
 }
@@ -84,6 +91,7 @@ impl fmt::Display for Call {
             }
             Call::Frame(request) => write!(f, "{request}"),
             Call::Audit { words } => write!(f, "audit({words} words)"),
+            Call::Print { words, page } => write!(f, "print({words} words, page {page})"),
         }
     }
 }
@@ -116,15 +124,22 @@ pub fn hex(bytes: &[u8]) -> String {
     format!("[{}]", digits.join(" "))
 }
 
-/// What a call gives beside the sonde, the reply and the volume: `length` is a reply's length, or the entries in use of an audit.
+/// What a call gives beside the sonde, the reply, the page and the volume: `length` is a reply's or a page's length, or the entries in use of
+/// an audit.
 #[derive(Clone, Copy, Debug, PartialEq, Eq)]
 pub struct Answer {
     pub number: u8,
-    pub length: u16,
+    pub length: u32,
 }
 
 impl Answer {
-    pub fn new(number: u8, length: u16) -> Answer {
+    pub fn new(number: u8, length: impl Into<u32>) -> Answer {
+        let length = length.into();
         Answer { number, length }
+    }
+
+    /// Of a call that has no length.
+    pub fn of(number: u8) -> Answer {
+        Answer { number, length: 0 }
     }
 }

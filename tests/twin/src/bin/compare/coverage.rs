@@ -5,7 +5,8 @@ use crate::both::IMAGE;
 use crate::breach::{Breach, OF_ASCII};
 use crate::calls::{Answer, Call, Kind, Request};
 use crate::corrupt::{Corruption, OF_SONDE, OF_VOLUME};
-use crate::generate::{DEVICE_END, LONGEST_READ, REPLIES};
+use crate::generate::{page_due, DEVICE_END, LONGEST_READ, REPLIES};
+use crate::printed::{self, Fit, Printed, FITS};
 use std::collections::BTreeMap;
 use std::num::FpCategory;
 use twin::calibration::{candidate, within_limits, Coefficients, DIRECT, LEVEL, LIMITS, ONE_POINT, SENSORS, TWO_POINTS};
@@ -213,6 +214,12 @@ pub enum Item {
     BeginWithTechnician,
     AuditWithEntries,
     AuditWithTechnician,
+    /// A page beside the one that the entries in use take.
+    Page {
+        fit: Fit,
+        number: u8,
+    },
+    Printed(Printed),
     Corrupted {
         corruption: Corruption,
         call: Kind,
@@ -268,7 +275,16 @@ impl Coverage {
                 self.note_if(before.with_technician(), Item::AuditWithTechnician);
             }
             Call::Begin { .. } => self.note_begin(before),
-            Call::Fresh { .. } | Call::Measure { .. } => {}
+            Call::Fresh { .. } | Call::Measure { .. } | Call::Print { .. } => {}
+        }
+    }
+
+    /// Notes how the page of a print fits, and what it shows.
+    pub fn note_print(&mut self, volume: &[u16], page: usize, number: u8) {
+        let fit = Fit::of(page, page_due(volume));
+        self.note(Item::Page { fit, number });
+        if number == 0 {
+            printed::shown(volume).into_iter().for_each(|item| self.note(Item::Printed(item)));
         }
     }
 
@@ -571,6 +587,15 @@ impl Coverage {
         (table, missing)
     }
 
+    /// What was printed: pages, and prints that were refused.
+    pub fn prints(&self) -> String {
+        let of = |number| {
+            let call = Kind::Print;
+            self.0.get(&Item::Number { call, number }).copied().unwrap_or(0)
+        };
+        format!("{} pages printed and {} refused", of(0), of(4) + of(7))
+    }
+
     /// What was met in ASCII: frames, calibrations and bad frames of each kind.
     pub fn ascii(&self) -> String {
         use Framing::Ascii;
@@ -660,12 +685,20 @@ fn required() -> Vec<Item> {
     items.extend(required_updates());
     items.extend(required_technicians());
     items.extend(required_readings());
+    items.extend(required_prints());
     items.extend(required_corruptions());
     items.extend(required_faults());
     items
 }
 
-/// Each corruption, with every call that looks at what is wrong.
+/// Pages of each length, of valid volumes and of others, and all that they have to show.
+fn required_prints() -> impl Iterator<Item = Item> {
+    let pages = FITS.into_iter().flat_map(|fit| [(fit, fit.number()), (fit, 4)]);
+    let pages = pages.map(|(fit, number)| Item::Page { fit, number });
+    pages.chain(printed::required().into_iter().map(Item::Printed))
+}
+
+/// Each corruption, with every call that looks at what is wrong, and with a print, which looks at the volume alone.
 fn required_corruptions() -> Vec<Item> {
     let mut items = Vec::new();
     let of_sonde = OF_SONDE.map(|corruption| (corruption, &[Kind::Begin, Kind::Measure][..]));
@@ -675,6 +708,12 @@ fn required_corruptions() -> Vec<Item> {
         items.extend([Kind::Frame, Kind::Audit].map(|call| Item::Corrupted { corruption, call, number }));
         let number = if corruption.disagreement() { 0 } else { number };
         items.extend(calls.iter().map(|&call| Item::Corrupted { corruption, call, number }));
+        let number = if OF_VOLUME.contains(&corruption) { number } else { 0 };
+        items.push(Item::Corrupted {
+            corruption,
+            call: Kind::Print,
+            number,
+        });
     }
     for corruption in [Corruption::WordLonger, Corruption::WordShorter] {
         items.push(Item::Corrupted {
@@ -696,13 +735,14 @@ fn required_faults() -> impl Iterator<Item = Item> {
 }
 
 fn required_answers() -> Vec<Item> {
-    let numbers: [(Kind, &[u8]); 6] = [
+    let numbers: [(Kind, &[u8]); 7] = [
         (Kind::Fresh, &[0, 1]),
         (Kind::Begin, &[0, 2, 4]),
         (Kind::PowerUp, &[0, 1, 4]),
         (Kind::Measure, &[0, 4, 5, 6]),
         (Kind::Frame, &[0, 3, 4]),
         (Kind::Audit, &[0, 4]),
+        (Kind::Print, &[0, 4, 7]),
     ];
     let mut items: Vec<Item> = numbers
         .iter()

@@ -1,6 +1,6 @@
 //! Calls that are likely to find a mistake: mostly valid ones, near every edge of documents 01 and 02, then spoilt ones.
 
-use crate::both::Both;
+use crate::both::{Both, PAGE_MOST};
 use crate::breach::{self, broken, Breach, OF_ASCII};
 use crate::calls::{Call, Request};
 use crate::random::Random;
@@ -10,6 +10,7 @@ use twin::calibration::{DIRECT, LEVEL, LIMITS, ONE_POINT, TWO_POINTS};
 use twin::floats::split;
 use twin::frames::{MASK, READ, WRITE_MANY, WRITE_ONE};
 use twin::map::{locate, Access, Field, Owner, Place, ENTER, LEAVE, LEVEL_IDS, PARAMETERS, UPDATE};
+use twin::page::{page_bytes, LINE_BYTES};
 use twin::state::{valid_address, Sonde};
 use twin::volume::{capacity, ENTRY_WORDS, HEADER_WORDS};
 use twin::Framing;
@@ -84,11 +85,15 @@ impl Generator {
                 address: self.random.pick(&[0, 248, 249, 255]),
             },
             205..=209 => self.fresh(),
+            210..=249 => {
+                let words = self.words(both);
+                self.print(both, words)
+            }
             _ => self.frame(both),
         }
     }
 
-    /// Frames and audits wait for the begin.
+    /// Frames, audits and prints wait for the begin.
     fn call_before_begin(&mut self, both: &Both) -> Call {
         match self.random.below(10) {
             0 => self.fresh(),
@@ -144,6 +149,19 @@ impl Generator {
         self.random.between(least, most)
     }
 
+    /// A print of so many words, on a page that is long enough or not: by the entries that the volume says to have in use.
+    pub fn print(&mut self, both: &Both, words: usize) -> Call {
+        let random = &mut self.random;
+        let due = page_due(&both.twin_volume[..words]);
+        let longer = due + random.between(2, 400);
+        let shorter = random.below(due);
+        let page = random.pick(&[due, due, due, due + 1, longer, longer, due - 1, due - LINE_BYTES, shorter, 0]);
+        Call::Print {
+            words,
+            page: page.min(PAGE_MOST),
+        }
+    }
+
     pub fn measure(&mut self, sonde: &Sonde) -> Call {
         let random = &mut self.random;
         let sensor = if random.chance(5) {
@@ -181,14 +199,14 @@ impl Generator {
             Framing::Rtu => self.seal_rtu(&body),
             Framing::Ascii => self.seal_ascii(&body),
         };
-        let any = self.random.long();
+        let (any, small) = (self.random.long(), self.random.long() >> self.random.below(32));
         Call::Frame(Request {
             framing,
             bytes,
             breach,
             reply: self.reply(framing),
             words: self.words(both),
-            clock: self.random.pick(&[0, 1, u32::MAX, 0xFFFF, 0x1_0000, any, any, any]),
+            clock: self.random.pick(&[0, 1, u32::MAX, 0xFFFF, 0x1_0000, any, any, small]),
         })
     }
 
@@ -347,8 +365,8 @@ impl Generator {
     /// The technician's number; a mask keeps any bits of the one that stands.
     fn write_technician(&mut self) -> Vec<u8> {
         let random = &mut self.random;
-        let any = random.word();
-        let number = random.pick(&[0, 1, 0xFFFF, any, any, any]);
+        let (any, small) = (random.word(), random.word() >> random.below(16));
+        let number = random.pick(&[0, 1, 0xFFFF, any, any, small]);
         match random.below(3) {
             0 => words_body(WRITE_ONE, &[TECHNICIAN, number]),
             1 => write_many(TECHNICIAN, &[number]),
@@ -635,6 +653,11 @@ fn write_many(register: u16, words: &[u16]) -> Vec<u8> {
 
 fn write_long(register: u16, value: u32) -> Vec<u8> {
     write_many(register, &split(value))
+}
+
+/// Bytes of the page of a volume, by the entries that it says to have in use.
+pub fn page_due(volume: &[u16]) -> usize {
+    page_bytes(volume.get(2).copied().unwrap_or(0).into())
 }
 
 /// Whether a fresh with this address makes a new sonde, which then needs a volume.

@@ -1,7 +1,7 @@
-//! The proved library's six calls, behind slices. Its interface asks for pointers that are valid for their lengths, aligned, not null and
+//! The proved library's seven calls, behind slices. Its interface asks for pointers that are valid for their lengths, aligned, not null and
 //! don't overlap: those of slices are.
 
-use sonde::ffi::{self, Audit, Frame, Made, Sonde};
+use sonde::ffi::{self, Audit, Frame, Made, Print, Sonde};
 use twin::Framing;
 
 pub fn fresh(address: u8) -> Made {
@@ -39,4 +39,8 @@ pub fn frame(sonde: Sonde, bytes: &[u8], reply: &mut [u8], volume: &mut [u16], c
 
 pub fn audit(sonde: Sonde, volume: &[u16]) -> Audit {
     unsafe { ffi::sonde_audit(sonde, volume.as_ptr(), volume.len()) }
+}
+
+pub fn print(volume: &[u16], page: &mut [u8]) -> Print {
+    unsafe { ffi::sonde_print(volume.as_ptr(), volume.len(), page.as_mut_ptr(), page.len()) }
 }

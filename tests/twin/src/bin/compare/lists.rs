@@ -13,6 +13,7 @@ use serve::fault;
 use std::collections::VecDeque;
 use twin::book::Book;
 use twin::map::{ENTER, UPDATE};
+use twin::page::page_bytes;
 use twin::state::{SensorSettings, Sonde};
 use twin::volume::{replay, CAPACITY_MOST, ENTRY_WORDS, HEADER_WORDS};
 
@@ -103,6 +104,9 @@ impl Lists {
         }
         hold_technician(before, both, call, answer)?;
         self.coverage.note_call(before, call, answer);
+        if let Call::Print { words, page } = *call {
+            self.coverage.note_print(&both.twin_volume[..words], page, answer.number);
+        }
         both.history = before.history.after(call, &before.sonde, &both.twin);
         if self.comparison.agreed {
             self.coverage.note_registers(&both.twin, &self.comparison.registers);
@@ -115,18 +119,19 @@ impl Lists {
     fn hold_fault_after(&mut self, both: &Both, call: &Call, answer: Answer) -> Result<(), String> {
         match *call {
             Call::PowerUp { words, .. } if answer.number != 1 => self.hold_fault(&both.library_volume[..words], answer.number),
+            Call::Print { words, .. } => self.hold_fault(&both.library_volume[..words], answer.number),
             _ if self.comparison.agreed => self.hold_fault(&both.library_volume[..both.lent], 0),
             _ => Ok(()),
         }
     }
 
-    /// The serial host names a fault exactly where power-up refuses the volume, and of words that the volume has.
+    /// The serial host names a fault exactly where power-up or print refuses the volume, and of words that the volume has.
     fn hold_fault(&mut self, volume: &[u16], number: u8) -> Result<(), String> {
         self.volumes += 1;
         let fault = fault::first(volume);
         if fault.is_some() != (number == 4) || fault.as_ref().is_some_and(|fault| fault.words.end > volume.len()) {
             return Err(format!(
-                "the fault named isn't power-up's\n  power-up: {number}\n  fault:    {fault:?}"
+                "the fault named doesn't go with the number\n  number: {number}\n  fault:  {fault:?}"
             ));
         }
         Ok(())
@@ -161,7 +166,31 @@ impl Lists {
         if generator.unbegun {
             return Ok(());
         }
-        self.check_book(both, book).map_err(|difference| format!("{call}\n{difference}"))
+        self.check_book(both, book).map_err(|difference| format!("{call}\n{difference}"))?;
+        match *call {
+            Call::Print { page, .. } => self
+                .check_page(book, page, answer)
+                .map_err(|difference| format!("{call}\n{difference}")),
+            _ => Ok(()),
+        }
+    }
+
+    /// The page shows the book's openings and entries, or it is too short for them.
+    fn check_page(&self, book: &Book, page: usize, answer: Answer) -> Result<(), String> {
+        let due = book.page();
+        let answer_due = match page < due.len() {
+            true => Answer::of(7),
+            false => Answer::new(0, due.len() as u32),
+        };
+        if answer != answer_due {
+            return Err(format!("{answer:?}, and by the book {answer_due:?}"));
+        }
+        let printed = String::from_utf8_lossy(self.comparison.page(answer));
+        match printed.lines().zip(due.lines()).find(|(line, by_book)| line != by_book) {
+            Some((line, by_book)) => Err(format!("a line isn't the book's\n  page: \"{line}\"\n  book: \"{by_book}\"")),
+            None if answer.number == 0 && printed != due => Err("the lines don't end as the book's do".to_string()),
+            None => Ok(()),
+        }
     }
 
     /// Demand 3: header and entries in use are the book's; replay, calibrations in force and the book's are the same.
@@ -211,7 +240,7 @@ impl Lists {
         Ok(())
     }
 
-    /// Fills a journal of 1000 entries by several technicians, updates once more, powers up, and corrupts copies.
+    /// Fills a journal of 1000 entries by several technicians, with prints in between, goes on when it is full, and corrupts copies.
     fn long(&mut self, generator: &mut Generator) -> Result<(), String> {
         let mut both = Both::new(MOST_WORDS + ENTRY_WORDS + 2, &mut generator.random);
         let mut book = Book::fresh(1);
@@ -227,10 +256,19 @@ impl Lists {
                     let technician = generator.random.word();
                     calls.push_back(long_word(generator, TECHNICIAN, technician));
                 }
+                if generator.random.chance(10) {
+                    calls.push_back(generator.print(&both, MOST_WORDS));
+                }
                 let register = generator.random.pick(&[105, 205, 305, 405]);
                 calls.push_back(long_word(generator, register, UPDATE));
             }
         }
+        self.when_full(&mut both, &mut book, generator)?;
+        self.corrupted_full(both, generator)
+    }
+
+    /// An update too many, a power-up, an audit, and prints: of a volume with words that are never used, and on a page that lacks a byte.
+    fn when_full(&mut self, both: &mut Both, book: &mut Book, generator: &mut Generator) -> Result<(), String> {
         let last = [
             long_word(generator, 305, UPDATE),
             Call::PowerUp {
@@ -238,12 +276,20 @@ impl Lists {
                 words: MOST_WORDS,
             },
             Call::Audit { words: MOST_WORDS + 1 },
+            Call::Print {
+                words: MOST_WORDS + ENTRY_WORDS,
+                page: page_bytes(CAPACITY_MOST),
+            },
+            Call::Print {
+                words: MOST_WORDS,
+                page: page_bytes(CAPACITY_MOST) - 1,
+            },
         ];
         for call in last {
-            self.followed_step(&mut both, &mut book, &call, generator)
+            self.followed_step(both, book, &call, generator)
                 .map_err(|difference| format!("when full: {difference}"))?;
         }
-        self.corrupted_full(both, generator)
+        Ok(())
     }
 
     /// Corrupts copies of a journal of 1000 entries. Here alone a length of an entry more or less can leave the capacity as it is.
@@ -308,6 +354,7 @@ impl Lists {
                 call: call.kind(),
                 number,
             });
+            hold_print(corruption, call, number).map_err(failed)?;
             let expected = if corruption.harmless() { 0 } else { 4 };
             if call.kind() == Kind::Audit && number != expected && !corruption.uncertain() {
                 return Err(format!("corrupted by {corruption:?}: both audits give {number}, not {expected}"));
@@ -324,7 +371,7 @@ fn follow(book: &mut Book, call: &Call) {
         Call::Begin { words } => book.begin(*words),
         Call::PowerUp { address, .. } => book.power_up(*address),
         Call::Frame(request) => book.frame(&request.bytes, request.reply, request.clock, request.framing),
-        Call::Fresh { .. } | Call::Measure { .. } | Call::Audit { .. } => {}
+        Call::Fresh { .. } | Call::Measure { .. } | Call::Audit { .. } | Call::Print { .. } => {}
     }
 }
 
@@ -374,6 +421,18 @@ fn hold_technician(before: &Before, both: &Both, call: &Call, answer: Answer) ->
     Ok(())
 }
 
+/// A print looks at the volume, and never at the sonde beside it: both implementations alike could be wrong.
+fn hold_print(corruption: Corruption, call: &Call, number: u8) -> Result<(), String> {
+    let invalid = match OF_VOLUME.contains(&corruption) {
+        true => corruption.invalid(),
+        false => Some(false),
+    };
+    match (call.kind(), invalid) {
+        (Kind::Print, Some(invalid)) if invalid != (number == 4) => Err(format!("both prints give {number}")),
+        _ => Ok(()),
+    }
+}
+
 /// Counters near the number at which they stop.
 fn set_counters(both: &mut Both, random: &mut Random) {
     both.change_sonde(|sonde| {
@@ -406,10 +465,11 @@ fn call_on_wrong(both: &Both, corruption: Corruption, generator: &mut Generator)
         let register = 100 * telling_sensor(&both.twin, corruption) + 105;
         return generator.word_frame(both.twin.address, register, UPDATE, words);
     }
-    match generator.random.below(10) {
+    match generator.random.below(12) {
         0..=1 => Call::Begin { words },
         2..=3 => generator.measure(&both.twin),
         4..=6 => Call::PowerUp { address: 1, words },
+        7..=8 => generator.print(both, words),
         _ => generator.frame(both),
     }
 }

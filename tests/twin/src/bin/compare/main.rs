@@ -1,9 +1,9 @@
 //! Runs seeded lists of calls on the proved library and on the twin and compares, after each call: number and length, the whole reply
-//! buffer (filled with random bytes beforehand), the whole volume (its free words too), every field of the sonde bit for bit, and every
-//! register of the map, read by frames on copies. Frames of a list are RTU or ASCII at random, and some are also sent in both framings, to
-//! copies, where the effect has to be the same. Clean lists are also held to the control book (demand 3); lists of corrupted sondes and
-//! volumes are apart. Wherever it is known whether a frame is bad or a volume valid, both are held to that, and so is the fault that the
-//! serial host names. At the end the run has to have met everything that `coverage` requires.
+//! buffer or page (filled with random bytes beforehand), the whole volume (its free words too), every field of the sonde bit for bit, and
+//! every register of the map, read by frames on copies. Frames of a list are RTU or ASCII at random, and some are also sent in both
+//! framings, to copies, where the effect has to be the same. Clean lists are also held to the control book (demand 3), and so are the pages
+//! that they print; lists of corrupted sondes and volumes are apart. Wherever it is known whether a frame is bad or a volume valid, both are
+//! held to that, and so is the fault that the serial host names. At the end the run has to have met everything that `coverage` requires.
 
 mod before;
 mod both;
@@ -15,6 +15,7 @@ mod coverage;
 mod generate;
 mod library;
 mod lists;
+mod printed;
 mod random;
 mod values;
 
@@ -129,8 +130,9 @@ fn report(shares: &[Lists]) -> ExitCode {
     }
     let both: u64 = shares.iter().map(|lists| lists.in_both_framings).sum();
     println!(
-        "{calls} calls and {registers} registers compared, {}, {both} requests in both framings, faults asked of {volumes} volumes, no difference",
-        coverage.ascii()
+        "{calls} calls and {registers} registers compared, {}, {both} requests in both framings, {}, faults asked of {volumes} volumes, no difference",
+        coverage.ascii(),
+        coverage.prints()
     );
     ExitCode::SUCCESS
 }
