@@ -1,8 +1,8 @@
 /*
  * A host in C, through include/sonde.h: begins a volume, calibrates sensor 2 over frames (two points), reads the calibration back, powers up
  * and audits, then does the same in ASCII, and in both framings side by side; then an update that fails for its limits alone, read back and
- * corrected; then technicians who give their numbers, and the entries that name them. Each step is compared with the bytes and numbers that
- * documents 01 and 02 give; the exit status is 1 where one differs.
+ * corrected; then technicians who give their numbers, and the entries that name them; at last it prints a journal. Each step is compared with the bytes
+ * and numbers that documents 01 and 02 give; the exit status is 1 where one differs.
  */
 #include <stdio.h>
 #include <string.h>
@@ -355,11 +355,76 @@ static void technicians(void) {
     check(sonde_power_up(17, volume, WORDS).number == SONDE_INVALID, "technician: word 20 of an entry has to be 0: number 4");
 }
 
+static uint8_t page[SONDE_PAGE_BYTES(3) + 40];
+
+/* Prints a journal on so many bytes of the page and holds it to these lines, "" for none; the bytes past them stay, and so does the volume. */
+static void put_on_paper(const uint16_t *words, size_t bytes, uint8_t number, const char *lines, const char *what) {
+    static uint16_t before[WORDS];
+    size_t due = strlen(lines);
+    memcpy(before, words, sizeof before);
+    memset(page, 0xAA, sizeof page);
+    SondePrint p = sonde_print(words, WORDS, page, bytes);
+    bool stays = memcmp(words, before, sizeof before) == 0;
+    for (size_t i = due; i < sizeof page; i++) stays = stays && page[i] == 0xAA;
+    check(p.number == number && p.length == due && memcmp(page, lines, due) == 0 && stays, what);
+}
+
+/* Three calibrations, at 305419896: sensor 1 by the point (1000, 1250), sensor 3 with offset -0 and the third coefficient -2, and sensor 2 as it is. */
+static Sonde calibrated_thrice(void) {
+    Sonde s = begun(volume);
+    s = ask(s, BYTES(17, 6, 0, 9, 0, 7), BYTES(17, 6, 0, 9, 0, 7), "paper: technician 7");
+    s = ask(s, BYTES(17, 6, 0, 105, 0xE0, 0x00), BYTES(17, 6, 0, 105, 0xE0, 0x00), "paper: mode on, sensor 1");
+    s = ask(s, BYTES(17, 6, 0, 106, 0, 1), BYTES(17, 6, 0, 106, 0, 1), "paper: method: one point");
+    s = ask(s, BYTES(17, 16, 0, 116, 0, 2, 4, 0x44, 0x7A, 0, 0), BYTES(17, 16, 0, 116, 0, 2), "paper: x1 = 1000");
+    s = ask(s, BYTES(17, 16, 0, 118, 0, 2, 4, 0x44, 0x9C, 0x40, 0), BYTES(17, 16, 0, 118, 0, 2), "paper: y1 = 1250");
+    s = ask(s, BYTES(17, 6, 0, 105, 0xE0, 0x01), BYTES(17, 6, 0, 105, 0xE0, 0x01), "paper: update, sensor 1");
+    s = ask(s, BYTES(17, 6, 0, 9, 0xFF, 0xFF), BYTES(17, 6, 0, 9, 0xFF, 0xFF), "paper: technician 65535");
+    s = ask(s, BYTES(17, 6, 1, 49, 0xE0, 0x00), BYTES(17, 6, 1, 49, 0xE0, 0x00), "paper: mode on, sensor 3");
+    s = ask(s, BYTES(17, 16, 1, 54, 0, 2, 4, 0x80, 0, 0, 0), BYTES(17, 16, 1, 54, 0, 2), "paper: offset -0");
+    s = ask(s, BYTES(17, 16, 1, 58, 0, 2, 4, 0xC0, 0, 0, 0), BYTES(17, 16, 1, 58, 0, 2), "paper: third coefficient -2");
+    s = ask(s, BYTES(17, 6, 1, 49, 0xE0, 0x01), BYTES(17, 6, 1, 49, 0xE0, 0x01), "paper: update, sensor 3");
+    s = ask(s, BYTES(17, 6, 0, 9, 0, 0), BYTES(17, 6, 0, 9, 0, 0), "paper: technician not given");
+    s = ask(s, BYTES(17, 6, 0, 205, 0xE0, 0x00), BYTES(17, 6, 0, 205, 0xE0, 0x00), "paper: mode on, sensor 2");
+    return ask(s, BYTES(17, 6, 0, 205, 0xE0, 0x01), BYTES(17, 6, 0, 205, 0xE0, 0x01), "paper: update, sensor 2");
+}
+
+static void on_paper(void) {
+    static uint16_t next[WORDS];
+    static const char lines[] = "   0 1 -     0          0 00000000 3F800000 00000000\n"
+                                "   0 2 -     0          0 00000000 3F800000 00000000\n"
+                                "   0 3 -     0          0 00000000 00000000 00000000\n"
+                                "   0 4 -     0          0 00000000 3F800000 00000000\n"
+                                "   1 1 1     7  305419896 00000000 3FA00000 00000000\n"
+                                "   2 3 0 65535  305419896 80000000 00000000 C0000000\n"
+                                "   3 2 0     0  305419896 00000000 3F800000 00000000\n";
+    Sonde s = calibrated_thrice();
+    check(sizeof lines - 1 == SONDE_PAGE_BYTES(3), "paper: 53 bytes for each of 7 lines");
+    put_on_paper(volume, SONDE_PAGE_BYTES(3) - 1, SONDE_SHORT_PAGE, "", "paper: a page that lacks a byte: number 7");
+    put_on_paper(volume, 0, SONDE_SHORT_PAGE, "", "paper: an empty page: number 7");
+    put_on_paper(volume, sizeof page, SONDE_OK, lines, "paper: a page that is longer");
+    put_on_paper(volume, SONDE_PAGE_BYTES(3), SONDE_OK, lines, "paper: a page that is just long enough");
+    printf("%.*s", (int)SONDE_PAGE_BYTES(3), (const char *)page);
+
+    /* The next journal opens with what is in force. */
+    check(sonde_begin(s, next, WORDS).number == SONDE_OK, "paper: the next journal");
+    put_on_paper(next, sizeof page, SONDE_OK,
+                 "   0 1 -     0  305419896 00000000 3FA00000 00000000\n"
+                 "   0 2 -     0  305419896 00000000 3F800000 00000000\n"
+                 "   0 3 -     0  305419896 80000000 00000000 C0000000\n"
+                 "   0 4 -     0          0 00000000 3F800000 00000000\n",
+                 "paper: a journal without entries");
+
+    volume[88 + 20] = 1;
+    put_on_paper(volume, sizeof page, SONDE_INVALID, "", "paper: a changed entry: number 4");
+    put_on_paper(volume, 0, SONDE_INVALID, "", "paper: number 4 before number 7");
+}
+
 int main(void) {
     in_rtu();
     in_ascii();
     in_both_framings();
     failed_update();
     technicians();
+    on_paper();
     return failed;
 }
