@@ -29,6 +29,8 @@ static Sonde sonde;
 static SondeMade made;
 static SondeFrame answer;
 static SondeAudit audit;
+static SondePrint printed;
+static uint8_t page[SONDE_MOST_PAGE_BYTES];
 
 /* The bytes of stack that f takes. */
 static size_t taken(void (*f)(void)) {
@@ -54,12 +56,13 @@ static void call_frame(void) {
     answer = sonde_frame(sonde, frame, frame_len, reply, reply_len, volume, WORDS, clock_now, ascii);
 }
 static void call_audit(void) { audit = sonde_audit(sonde, volume, WORDS); }
+static void call_print(void) { printed = sonde_print(volume, WORDS, page, sizeof page); }
 
-enum { NOTHING, FRESH, BEGIN, POWER_UP, MEASURE, FRAME, AUDIT, CALLS };
+enum { NOTHING, FRESH, BEGIN, POWER_UP, MEASURE, FRAME, AUDIT, PRINT, CALLS };
 
 static const struct { const char *name; void (*f)(void); } calls[CALLS] = {
     {"no call", call_nothing}, {"sonde_fresh", call_fresh}, {"sonde_begin", call_begin}, {"sonde_power_up", call_power_up},
-    {"sonde_measure", call_measure}, {"sonde_frame", call_frame}, {"sonde_audit", call_audit},
+    {"sonde_measure", call_measure}, {"sonde_frame", call_frame}, {"sonde_audit", call_audit}, {"sonde_print", call_print},
 };
 static size_t most[CALLS];
 
@@ -162,6 +165,8 @@ int main(int argc, char **argv) {
     }
     measured(AUDIT);
     expect(audit.number == SONDE_OK && audit.entries == 1000, "the audit of 1000 entries");
+    measured(PRINT);
+    expect(printed.number == SONDE_OK && printed.length == sizeof page && page[sizeof page - 1] == '\n', "the print of 1000 entries");
     make(MEASURE);
     make(POWER_UP);
     for (int i = 0; i < 2; i++) {
