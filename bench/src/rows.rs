@@ -8,6 +8,7 @@ pub enum Work {
     /// Accepted calibrations, `UPDATES` to a journal.
     Update,
     Audit,
+    Print,
 }
 
 pub struct Row {
@@ -84,6 +85,7 @@ pub const SHORT: &str = "short bad frame";
 pub const ASCII_LONG: &str = "ASCII: long bad frame";
 pub const ASCII_SHORT: &str = "ASCII: short bad frame";
 
+/// New rows are the last, so that the others keep their numbers.
 pub fn rows() -> Vec<Row> {
     let mut rows = vec![
         row("read of 1 register", 0, Work::Frame(words(3, 0, 1)), true),
@@ -115,10 +117,10 @@ pub fn rows() -> Vec<Row> {
         ));
     }
     rows.extend(ascii_rows());
+    rows.push(row("print, 1000 entries", 1000, Work::Print, false));
     rows
 }
 
-/// The last rows, so that the others keep their numbers.
 fn ascii_rows() -> [Row; 5] {
     let frames = [
         ("ASCII: read of 1 register", ascii(&body(3, 0, 1))),
@@ -153,6 +155,9 @@ impl Row {
             }),
             Work::Audit => (0..calls).for_each(|_| {
                 std::hint::black_box(side.audit());
+            }),
+            Work::Print => (0..calls).for_each(|_| {
+                std::hint::black_box(side.print());
             }),
             Work::Update => {
                 let update = words(6, 105, 0xE001);

@@ -15,6 +15,8 @@ pub trait Side {
     fn begin(&mut self);
     /// The entries in use.
     fn audit(&mut self) -> usize;
+    /// The journal on a page; the length of the lines.
+    fn print(&mut self) -> usize;
 }
 
 pub struct Library {
@@ -22,6 +24,7 @@ pub struct Library {
     volume: Vec<u16>,
     reply: [u8; sonde::REPLY_BYTES],
     ascii_reply: [u8; sonde::ASCII_REPLY_BYTES],
+    page: Vec<u8>,
 }
 
 impl Library {
@@ -31,6 +34,7 @@ impl Library {
             volume: vec![0; sonde::MOST_WORDS],
             reply: [0; sonde::REPLY_BYTES],
             ascii_reply: [0; sonde::ASCII_REPLY_BYTES],
+            page: vec![0; sonde::MOST_PAGE_BYTES],
         };
         side.begin();
         side
@@ -57,6 +61,10 @@ impl Side for Library {
     fn audit(&mut self) -> usize {
         self.sonde.audit(&self.volume).expect("no number").into()
     }
+
+    fn print(&mut self) -> usize {
+        sonde::print(&self.volume, &mut self.page).expect("no number").len()
+    }
 }
 
 pub struct Twin {
@@ -64,6 +72,7 @@ pub struct Twin {
     volume: Vec<u16>,
     reply: [u8; sonde::REPLY_BYTES],
     ascii_reply: [u8; sonde::ASCII_REPLY_BYTES],
+    page: Vec<u8>,
 }
 
 impl Twin {
@@ -73,6 +82,7 @@ impl Twin {
             volume: vec![0; sonde::MOST_WORDS],
             reply: [0; sonde::REPLY_BYTES],
             ascii_reply: [0; sonde::ASCII_REPLY_BYTES],
+            page: vec![0; sonde::MOST_PAGE_BYTES],
         };
         side.begin();
         side
@@ -102,6 +112,12 @@ impl Side for Twin {
         assert_eq!(number, 0);
         entries.into()
     }
+
+    fn print(&mut self) -> usize {
+        let (number, length) = twin::print(&self.volume, &mut self.page);
+        assert_eq!(number, 0);
+        length as usize
+    }
 }
 
 /// libmodbus' server on 500 registers in memory. It has no journal and no ASCII.
@@ -127,6 +143,10 @@ impl Side for LibModbus {
     fn begin(&mut self) {}
 
     fn audit(&mut self) -> usize {
+        0
+    }
+
+    fn print(&mut self) -> usize {
         0
     }
 }
