@@ -31,7 +31,7 @@
  * The machine: x86-64 with the System V ABI; code that may stand anywhere in memory, and no more than SSE2. Floats are as C starts with them: rounded to
  * nearest, subnormals kept. Of the C library it needs memcpy and nothing else. No heap, and no variables of its own (.data and .bss are empty).
  *
- *     flash   at most 24576 bytes of code and constants
+ *     flash   at most 28672 bytes of code and constants
  *     stack   at most 3584 bytes for a call, with its arguments and its result. A memcpy that the dynamic linker binds late takes its own at first
  *     RAM     what the host keeps: a sonde 396 bytes, the volume 2 for each word (48128 for 1000 entries), the reply 256 (ASCII 513)
  *             and where it prints, the page: 53 for each line (53212 for 1000 entries)
