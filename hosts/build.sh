@@ -1,4 +1,4 @@
-# The tools, the proofs and the build, for ./serve and ./install. Both read this file, with `top` (the top of the repository) and `name` (their own) set.
+# The tools, the proofs and the build, for ./serve, ./print and ./install. They read this file, with `top` (the top of the repository) and `name` (their own) set.
 
 fail() {
     echo "$name: $1" >&2
