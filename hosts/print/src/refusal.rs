@@ -15,7 +15,7 @@ pub fn reason(bytes: &[u8]) -> String {
             "it has more than {MOST_BYTES} bytes, the most that is printed; no journal uses the bytes beyond, and `head -c {MOST_BYTES}` cuts them off"
         );
     }
-    if bytes.len() % 2 != 0 {
+    if !bytes.len().is_multiple_of(2) {
         return format!("it has {} bytes, which are no whole words", bytes.len());
     }
     let words: Vec<u16> = bytes.chunks_exact(2).map(|pair| u16::from_be_bytes([pair[0], pair[1]])).collect();
