@@ -1046,12 +1046,37 @@ def row_of_volumes(desk, _, archive):
         equal(new[a + b * sensor : c + d * sensor + 1] + new[e + f * sensor : g + h * sensor + 1], state, f"the opening of sensor {sensor}")
 
 
+def page_columns(_, __, archive):
+    """The columns of the page, by which the printed lines are read as the worked volume has them."""
+    places = {}
+    for characters, what in archive.table("Characters", "What they show"):
+        first, last = numbers(characters)[0], numbers(characters)[-1]
+        places[re.match(r"coefficient \d|\w+", what).group()] = slice(first - 1, last)
+    width, = map(int, archive.says(r"Every line has (\d+) characters and ends with LF"))
+    lines = re.search(r"^```text page\n(.*?)^```$", archive.text, re.M | re.S)[1].splitlines()
+    worked, wanted = archive.worked(), []
+    for sensor in SENSORS:
+        wanted.append(["0", str(sensor), "-", "0", worked[38 + 2 * sensor :][:2], worked[10 + 6 * sensor :][:6]])
+    for index in range(1, worked[2] + 1):
+        entry = worked[64 + 24 * (index - 1) :]
+        wanted.append([str(index), str(entry[1]), str(entry[2]), str(entry[3]), entry[4:6], entry[6:12]])
+    equal(list(places), ["index", "sensor", "method", "technician", "time", "coefficient 1", "coefficient 2", "coefficient 3"], "the columns")
+    equal(len(lines), len(wanted), "the lines of the page")
+    for line, (*plain, time, coefficients) in zip(lines, wanted):
+        equal(len(line), width, f"the characters of {line}")
+        cells = [line[place] for place in places.values()]
+        digits = hexadecimal(coefficients, 4).split()
+        shown = [*plain, str(time[0] << 16 | time[1]), *("".join(pair) for pair in zip(digits[::2], digits[1::2]))]
+        equal(cells, [text.rjust(len(cell)) for text, cell in zip(shown, cells)], f"the columns of {line}")
+        equal(" ".join(cells), line, "the line of its columns, with one blank between two")
+
+
 CHECKS = {
     "REGISTERS.md": (
         *(checksum, layouts, ascii_checksum, lengths, bad_ascii, digits, ascii_exchange, said, order, broadcast, past_the_end),
         *(existing, access, parameters, limits, readings, in_mode, calibration, refused_by_limits, who_calibrates, after_a_refusal, restart),
     ),
-    "ARCHIVE.md": (no_word_of_refused, rounding, names, sizes, no_coefficients, third, technicians, flips, either_framing, row_of_volumes),
+    "ARCHIVE.md": (no_word_of_refused, rounding, names, sizes, no_coefficients, third, technicians, flips, either_framing, row_of_volumes, page_columns),
 }
 
 
