@@ -1,4 +1,5 @@
-"""picture.py PRINT FOLDER: the pictures of the samples beside their pages. PRINT is the command; each sample's volume and picture are left in FOLDER."""
+"""picture.py TOP FOLDER: the pictures that ./print of a repository draws of the samples, and its host of random journals, beside their pages. Each volume and
+picture is left in FOLDER."""
 
 import calendar
 import re
@@ -10,10 +11,13 @@ from pathlib import Path
 import checks
 from checks import check, equal, ran
 from drawing import NUMBER, Drawing, grouped, meet, name_of, shape_of, start_of
-from samples import SAMPLES
+from samples import SAMPLES, random_journal
 from volumes import LIMITS, bits_of, f32, float_of, page, to_bytes
 
-PRINT, FOLDER = sys.argv[1], Path(sys.argv[2])
+TOP, FOLDER = Path(sys.argv[1]).resolve(), Path(sys.argv[2])
+PRINT = [str(TOP / "print"), "--svg"]
+HOST = [str(TOP / "target/cargo/release/print"), str(TOP / "target/bin/printer"), "svg", "standard input"]
+RANDOM = 60
 PANELS = [(sensor, k) for sensor, limits in LIMITS.items() for k, limit in enumerate(limits, 1) if limit]
 METHODS = {"-": "opening", "0": "method 0, direct", "1": "method 1, one point", "2": "method 2, two points"}
 TITLE = re.compile(
@@ -226,16 +230,26 @@ def nothing_overlaps(name, drawing):
                 check(False, f"{name}: {panel.sensor}, {panel.coefficient}: a text covers the mark at {x}, {y}")
 
 
-def picture(sample):
-    name, words = sample.__name__, sample().words()
-    path = FOLDER / f"{name}.volume"
-    path.write_bytes(to_bytes(words))
-    status, data, said = ran([PRINT, "--svg", str(path)])
+def sample_picture(sample):
+    """A file and standard input give the same picture."""
+    data = to_bytes(sample().words())
+    path = FOLDER / f"{sample.__name__}.volume"
+    path.write_bytes(data)
+    status, found, said = ran([*PRINT, str(path)])
+    equal(ran(PRINT, data), (status, found, said), f"{sample.__name__}: the picture once more, of standard input")
+    picture(sample.__name__, sample().words(), status, found, said)
+
+
+def random_picture(seed):
+    words = random_journal(seed).words()
+    picture(f"random journal {seed}", words, *ran(HOST, to_bytes(words)))
+
+
+def picture(name, words, status, data, said):
     if not equal((status, said), (0, b""), f"{name}: exit status and standard error"):
         return
     (FOLDER / f"{name}.svg").write_bytes(data)
-    equal(ran([PRINT, "--svg"], path.read_bytes()), (0, data, b""), f"{name}: the picture once more, of standard input")
-    check(len(data) < 40000 + 700 * words[2], f"{name}: {len(data)} bytes")
+    check(len(data) < 60000 + 600 * words[2], f"{name}: {len(data)} bytes")
     lines = [Line(text) for text in page(words).decode("ascii").splitlines()]
     drawing = Drawing(data)
     stands_alone(name, drawing)
@@ -266,5 +280,7 @@ def heading(name, drawing, sensor, lines):
 
 
 for each in SAMPLES:
-    picture(each)
+    sample_picture(each)
+for number in range(RANDOM):
+    random_picture(number)
 checks.ended("pictures")

@@ -73,4 +73,19 @@ def extremes():
     return some_volume(fixed(21), entries=60, capacity=60)
 
 
+def random_journal(seed):
+    """Times of any kind: over years or a few seconds, in clusters, anywhere."""
+    rng = fixed(seed)
+    kind = rng.randrange(4)
+    if kind == 0:
+        return journal(rng.randrange(1, 60), seed, rng.choice((1, 2, 10, 100, 1000, 10000)))
+    volume = some_volume(rng, entries=rng.choice((1, 2, 3, 5, 10, 40, 100)))
+    starts = [rng.randrange(1 << 32) for _ in range(rng.randrange(1, 6) if kind == 1 else 1)]
+    span = int(10 ** rng.uniform(0, 9 if kind == 2 else 6))
+    if kind < 3:
+        for entry in volume.entries:
+            entry.time = min(4294967295, rng.choice(starts) + rng.randrange(span))
+    return volume
+
+
 SAMPLES = (one, thirty, thousand, back, empty, alike, extremes)

@@ -10,9 +10,11 @@ const CUT: u64 = 6;
 const MOST_CUTS: usize = 3;
 /// Pixels between two parts of the axis.
 const GAP: f64 = 14.0;
-/// Pixels before the first and behind the last time of a part: of the whole axis, and of one that is cut, where a date has to have room.
-const WHOLE_PAD: f64 = 14.0;
-const CUT_PAD: f64 = 62.0;
+/// Pixels before the first and behind the last time of a part.
+const PAD: f64 = 14.0;
+/// The same where a date may have to stand at the first time itself: on an axis that is cut, or of so few seconds that no round date need be in view.
+const DATE_PAD: f64 = 62.0;
+const FEW_SECONDS: f64 = 5.0;
 /// The seconds that an axis has in view where all times are the same.
 const ONE_TIME_VIEW: f64 = 3600.0;
 /// The least pixels between the texts of two ticks.
@@ -143,8 +145,8 @@ fn cuts(times: &[u32]) -> Vec<(u32, u32)> {
 
 /// Each part has the width of its seconds and a pad on both sides.
 fn parts(spans: &[(u32, u32)], left: f64, right: f64) -> Vec<Part> {
-    let pad = if spans.len() > 1 { CUT_PAD } else { WHOLE_PAD };
     let seconds: f64 = spans.iter().map(|(first, last)| f64::from(last - first)).sum();
+    let pad = if spans.len() > 1 || seconds < FEW_SECONDS { DATE_PAD } else { PAD };
     let pads = 2.0 * pad * spans.len() as f64 + GAP * (spans.len() - 1) as f64;
     if seconds == 0.0 {
         let (first, last) = spans[0];
@@ -218,17 +220,24 @@ mod tests {
     }
 
     #[test]
-    fn ticks_keep_their_distance() {
+    fn ticks_keep_their_distance_and_stay_inside() {
         for times in [
             &[0, u32::MAX][..],
             &[1_767_225_600, 1_767_225_601],
             &[7, 90_000],
             &[0, 1, 4_000_000_000, 4_000_000_100],
+            &[5, 7],
+            &[1000, 1005],
             &[0, 40_000_000],
         ] {
             let axis = axis(times);
             for ticks in [axis.seconds(), axis.dates()] {
                 assert!(!ticks.is_empty());
+                for tick in &ticks {
+                    let half = text_width(&tick.text, 10.0) / 2.0;
+                    let fits = |part: &Part| part.left <= tick.x - half && tick.x + half <= part.right;
+                    assert!(axis.parts.iter().any(fits), "{times:?}: {} at {}", tick.text, tick.x);
+                }
                 for pair in ticks.windows(2) {
                     let room = (text_width(&pair[0].text, 10.0) + text_width(&pair[1].text, 10.0)) / 2.0;
                     assert!(pair[1].x - pair[0].x > room, "{times:?}: {} {}", pair[0].text, pair[1].text);
