@@ -76,7 +76,7 @@ class Screen:
 def shot(name, drawing):
     """The browser's picture of the upper part; None where it makes none."""
     path = FOLDER / f"{name}.png"
-    words = [CHROMIUM, "--headless", "--no-sandbox", "--disable-gpu", "--hide-scrollbars", "--force-device-scale-factor=1"]
+    words = [CHROMIUM, "--headless", "--no-sandbox", "--disable-gpu", "--disable-dev-shm-usage", "--hide-scrollbars", "--force-device-scale-factor=1"]
     words += [f"--user-data-dir={FOLDER}/profile", f"--screenshot={path}", f"--window-size={drawing.width:.0f},{HEIGHT}"]
     done = subprocess.run([*words, (FOLDER / f"{name}.svg").as_uri()], capture_output=True, timeout=60)
     if check(done.returncode == 0 and path.exists(), f"{name}: {CHROMIUM} made no picture: {done.stderr[-300:]}"):

@@ -1,19 +1,20 @@
 //! Where the parts of the picture stand, in pixels.
 
-pub const WIDTH: f64 = 1160.0;
-pub const MARGIN: f64 = 20.0;
+/// A browser that prints shrinks a wide picture to the paper, but not without limit: this width fits A4 and Letter.
+pub const WIDTH: f64 = 1060.0;
+pub const MARGIN: f64 = 14.0;
 /// The right ends of the texts at the left of the panels.
-pub const CAPTIONS: f64 = 128.0;
+pub const CAPTIONS: f64 = 112.0;
 /// The column of the openings.
-pub const OPENING_LEFT: f64 = 134.0;
-pub const OPENING_RIGHT: f64 = 246.0;
+pub const OPENING_LEFT: f64 = 118.0;
+pub const OPENING_RIGHT: f64 = 222.0;
 /// What has a time.
-pub const PLOT_LEFT: f64 = 260.0;
-pub const PLOT_RIGHT: f64 = 1036.0;
+pub const PLOT_LEFT: f64 = 236.0;
+pub const PLOT_RIGHT: f64 = 942.0;
 /// The whole range between the limits of a coefficient.
-pub const GAUGE_LEFT: f64 = 1054.0;
-pub const GAUGE_RIGHT: f64 = 1066.0;
-pub const GAUGE_TEXT: f64 = 1072.0;
+pub const GAUGE_LEFT: f64 = 956.0;
+pub const GAUGE_RIGHT: f64 = 966.0;
+pub const GAUGE_TEXT: f64 = 971.0;
 
 /// A panel's heading, its plot, and the room below.
 pub const HEADING: f64 = 22.0;

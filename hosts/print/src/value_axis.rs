@@ -2,8 +2,8 @@
 
 use crate::ticks::Step;
 
-/// What is left free above and below the points, beside their own range.
-const MARGIN: f64 = 0.16;
+/// What is left free above and below the points, as a part of their own range: room for a label.
+const MARGIN: f64 = 0.2;
 /// The least distance of two ticks, in pixels.
 const SPACING: f64 = 26.0;
 
@@ -59,7 +59,7 @@ mod tests {
     fn values_that_differ_by_the_least_bit_are_apart() {
         let next = f32::from_bits(1.0f32.to_bits() + 1);
         let axis = ValueAxis::new(&[1.0, next], [0.25, 4.0], 0.0, 130.0);
-        assert!(axis.y(1.0) - axis.y(next.into()) > 90.0);
+        assert!(axis.y(1.0) - axis.y(next.into()) > 85.0);
         assert!(axis.ticks().len() >= 3, "{:?}", axis.ticks());
     }
 
