@@ -41,20 +41,32 @@ class Part:
         return self.first_x + (time - self.first) / self.scale
 
 
-class Panel:
+class Values:
+    """A part of the axis of values, by what the SVG states of it."""
+
     def __init__(self, element):
         self.element = element
-        self.sensor, self.coefficient = int(element.get("data-sensor")), int(element.get("data-coefficient"))
         self.low, self.high = float(element.get("data-low")), float(element.get("data-high"))
         self.top, self.bottom = float(element.get("data-top")), float(element.get("data-bottom"))
-        self.points = list(grouped(element, "points")[0])
-        self.labels = list(grouped(element, "labels")[0])
 
     def y(self, value):
         return self.bottom - (value - self.low) / (self.high - self.low) * (self.bottom - self.top)
 
     def in_view(self, value):
         return self.y(min(max(value, self.low), self.high))
+
+
+class Panel:
+    def __init__(self, element):
+        self.element = element
+        self.sensor, self.coefficient = int(element.get("data-sensor")), int(element.get("data-coefficient"))
+        self.parts = [Values(ground) for ground in grouped(element, "ground")]
+        self.top, self.bottom = self.parts[-1].top, self.parts[0].bottom
+        self.points = list(grouped(element, "points")[0])
+        self.labels = list(grouped(element, "labels")[0])
+
+    def part_of(self, value):
+        return next((part for part in self.parts if part.low <= value <= part.high), None)
 
     def value_ticks(self):
         """Place and text of each."""

@@ -106,30 +106,51 @@ def time_axis(name, drawing, sensor):
 
 
 def value_axis(name, panel):
-    ticks = panel.value_ticks()
-    check(len(ticks) >= 2, f"{name}: {panel.sensor}, {panel.coefficient}: ticks {ticks}")
-    for y, text in ticks:
-        near(y, panel.y(float(text)), f"{name}: {panel.sensor}, {panel.coefficient}: the tick {text}")
+    """What the SVG states of its axis of values is what its ticks show; the scale is the same on both sides of a cut."""
+    what, ticks = f"{name}: {panel.sensor}, {panel.coefficient}", panel.value_ticks()
+    scales = [(part.high - part.low) / (part.bottom - part.top) for part in panel.parts]
+    check(max(scales) < 1.0001 * min(scales), f"{what}: scales {scales}")
+    for below, above in zip(panel.parts, panel.parts[1:]):
+        check(below.high < above.low and above.bottom < below.top, f"{what}: parts in order")
+    check(len(ticks) >= 2, f"{what}: ticks {ticks}")
+    for part in panel.parts:
+        inside = [(y, text) for y, text in ticks if part.top - HALF <= y <= part.bottom + HALF]
+        check(inside, f"{what}: a part without ticks")
+        for y, text in inside:
+            near(y, part.y(float(text)), f"{what}: the tick {text}")
+    outside = [text for _, text in ticks if panel.part_of(float(text)) is None]
+    equal(outside, [], f"{what}: ticks outside the axis")
 
 
 def limits(name, panel):
     low, high = map(f32, LIMITS[panel.sensor][panel.coefficient - 1])
     what = f"{name}: {panel.sensor}, {panel.coefficient}"
-    for band in grouped(panel.element, "band"):
-        top, height = float(band.get("y")), float(band.get("height"))
-        near(top, panel.in_view(high), f"{what}: the band's top")
-        near(top + height, panel.in_view(low), f"{what}: the band's bottom")
-    check(grouped(panel.element, "band"), f"{what}: no band")
-    shown = {round(start_of(path)[1], 1) for path in grouped(panel.element, "limit")}
-    wanted = [panel.y(limit) for limit in (high, low) if panel.low <= limit <= panel.high]
-    check(len(shown) == len(wanted) and all(min(abs(y - w) for y in shown) <= HALF for w in wanted), f"{what}: lines at limits {shown}, {wanted}")
-    whole, black, *texts = grouped(panel.element, "gauge")[0]
-    equal([text.text for text in texts], [f"limit {shortest(high)}", f"limit {shortest(low)}"], f"{what}: the gauge's limits")
+    for part in panel.parts:
+        bands = grouped(part.element, "band")
+        check(bands, f"{what}: no band")
+        for band in bands:
+            top, height = float(band.get("y")), float(band.get("height"))
+            near(top, part.in_view(high), f"{what}: the band's top")
+            near(top + height, part.in_view(low), f"{what}: the band's bottom")
+        shown = {start_of(path)[1] for path in grouped(part.element, "limit")}
+        wanted = [part.y(limit) for limit in (high, low) if part.low <= limit <= part.high]
+        fit = len(shown) == len(wanted) and all(min(abs(y - w) for y in shown) <= HALF for w in wanted)
+        check(fit, f"{what}: lines at limits {shown}, {wanted}")
+    gauge(what, panel, low, high)
+
+
+def gauge(what, panel, low, high):
+    whole, *inner = grouped(panel.element, "gauge")[0]
+    texts = [element.text for element in inner if name_of(element) == "text"]
+    black = [element for element in inner if name_of(element) == "rect"]
+    equal(texts, [f"limit {shortest(high)}", f"limit {shortest(low)}"], f"{what}: the gauge's limits")
+    equal(len(black), len(panel.parts), f"{what}: the gauge's black parts")
     top, height = float(whole.get("y")), float(whole.get("height"))
-    gauge = lambda value: top + height * (high - min(max(value, low), high)) / (high - low)
-    from_top, size = float(black.get("y")), float(black.get("height"))
-    near(from_top, gauge(panel.high), f"{what}: the top of the gauge's black part", 2.1)
-    near(from_top + size, gauge(panel.low), f"{what}: its bottom", 2.1)
+    place = lambda value: top + height * (high - min(max(value, low), high)) / (high - low)
+    for element, part in zip(black, panel.parts):
+        start, size = float(element.get("y")), float(element.get("height"))
+        near(start, place(part.high), f"{what}: the top of a black part of the gauge", 2.1)
+        near(start + size, place(part.low), f"{what}: its bottom", 2.1)
 
 
 def shortest(value):
@@ -172,8 +193,10 @@ def points(name, drawing, panel, lines):
         places.append((x, y))
         title(what, point, line, panel.coefficient)
         equal(shape_of(point), marks[METHODS[line.method]], f"{what}: the mark")
-        near(y, panel.y(float_of(int(line.digits[panel.coefficient - 1], 16))), f"{what}: the height")
-        check(panel.top <= y <= panel.bottom, f"{what}: above or below the panel")
+        value = float_of(int(line.digits[panel.coefficient - 1], 16))
+        if check(panel.part_of(value) is not None, f"{what}: no part of the axis has its value"):
+            near(y, panel.part_of(value).y(value), f"{what}: the height")
+            check(panel.part_of(value).top <= y <= panel.part_of(value).bottom, f"{what}: beside its part of the axis")
         if line.index:
             part = next((part for part in parts if part.first <= line.time <= part.last), None)
             if check(part is not None, f"{what}: no part of the axis has its time"):

@@ -68,6 +68,14 @@ def alike():
     return Volume(12, entries=entries)
 
 
+def level():
+    """References far from their openings, which later calibrations change by little."""
+    rng = fixed(13)
+    entries = [Entry(3, 0, 7, START + k * 30 * DAY, (f32(0.1 + rng.gauss(0, 0.01)), f32(412.5 + rng.gauss(0, 0.02)), f32(14.7))) for k in range(12)]
+    entries += [Entry(4, 0, 12, START + k * DAY, (f32(-90 - k / 1000), f32(7.9 + k / 20), 0.0)) for k in range(3)]
+    return Volume(20, entries=entries)
+
+
 def extremes():
     """Any sound volume: times over the whole range, coefficients at their limits."""
     return some_volume(fixed(21), entries=60, capacity=60)
@@ -88,4 +96,4 @@ def random_journal(seed):
     return volume
 
 
-SAMPLES = (one, thirty, thousand, back, empty, alike, extremes)
+SAMPLES = (one, thirty, thousand, back, empty, alike, level, extremes)

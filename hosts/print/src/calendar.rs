@@ -39,14 +39,18 @@ const fn months(count: i64, length: usize) -> CalendarStep {
     }
 }
 
-/// From the shortest on.
-const STEPS: [CalendarStep; 24] = [
+/// From the shortest on; none is more than three and a half times the one before, so that a round date is in view of every axis.
+const STEPS: [CalendarStep; 28] = [
     seconds(1, SECOND),
+    seconds(2, SECOND),
     seconds(5, SECOND),
+    seconds(10, SECOND),
     seconds(15, SECOND),
     seconds(30, SECOND),
     seconds(60, MINUTE),
+    seconds(120, MINUTE),
     seconds(300, MINUTE),
+    seconds(600, MINUTE),
     seconds(900, MINUTE),
     seconds(1800, MINUTE),
     seconds(3600, MINUTE),
@@ -124,12 +128,12 @@ mod tests {
 
     #[test]
     fn multiples_begin_months_and_years() {
-        for step in &STEPS[16..] {
+        for step in STEPS.iter().filter(|step| matches!(step.unit, Unit::Months)) {
             let times = step.multiples(0, u32::MAX);
             assert!(times.len() >= 6);
             assert!(times.iter().all(|&time| utc(time).ends_with("-01T00:00:00Z")), "{times:?}");
         }
-        let years: Vec<String> = STEPS[21]
+        let years: Vec<String> = months(60, YEAR)
             .multiples(1_000_000_000, 1_500_000_000)
             .iter()
             .map(|&time| date(time, YEAR))
@@ -139,8 +143,8 @@ mod tests {
 
     #[test]
     fn multiples_lie_between_both_ends() {
-        assert_eq!(STEPS[4].multiples(60, 181), [60, 120, 180]);
-        assert_eq!(STEPS[4].multiples(61, 119), []);
+        assert_eq!(seconds(60, MINUTE).multiples(60, 181), [60, 120, 180]);
+        assert_eq!(seconds(60, MINUTE).multiples(61, 119), []);
         assert_eq!(moment(1_767_225_600), "2026-01-01 00:00:00");
     }
 }

@@ -3,7 +3,7 @@
 use crate::layout::{LARGE, MARGIN, NORMAL, WIDTH};
 use crate::marks::{mark, name, INK};
 use crate::page::{Method, Page};
-use crate::svg::{placed, px, text_width, Svg};
+use crate::svg::{placed, text_width, Svg};
 
 pub const TITLE: &str = "Calibration coefficients of a water-quality sonde";
 const LINE: f64 = 17.0;
@@ -71,7 +71,7 @@ fn paragraphs(page: &Page) -> Vec<String> {
          The narrow gauge at its right is all that the limits allow, and the black part of it is what the panel shows."
             .to_string(),
         "Times are seconds of the clock of the sonde's host. The volume doesn't hold what the clock's zero is: the dates in the second row are UTC if zero is \
-         1970-01-01 00:00:00, and otherwise wrong. Where // cuts the time axis, a long time without entries is left out; the scale is the same on both sides."
+         1970-01-01 00:00:00, and otherwise wrong. Where // cuts an axis, a range without points is left out; the scale is the same on both sides of a cut."
             .to_string(),
         "Coefficient 3 of sensors 1, 2 and 4 is always +0 and has no panel.".to_string(),
     ];
@@ -98,10 +98,4 @@ fn wrapped(text: &str) -> Vec<String> {
         }
     }
     lines
-}
-
-/// Two slanted strokes where an axis is cut.
-pub fn cut(svg: &mut Svg, x: f64, y: f64) {
-    let path = format!("M{} {}l4 -10M{} {}l4 -10", px(x - 4.0), px(y + 5.0), px(x), px(y + 5.0));
-    svg.empty("path", &[("class", "cut".to_string()), ("d", path), ("stroke", INK.to_string())]);
 }

@@ -1,7 +1,7 @@
 //! The marks of points: the method is told by the shape as well as by the colour.
 
 use crate::page::Method;
-use crate::svg::{px, Attribute};
+use crate::svg::{px, Attribute, Svg};
 
 /// The colour of lines, letters and outlines.
 pub const INK: &str = "#111";
@@ -29,4 +29,10 @@ pub fn mark(method: Method, x: f64, y: f64, radius: f64) -> [Attribute<'static>;
         Method::TwoPoints => (format!("m0 {}l{} {}h{}z", r(-1.2), r(1.2), r(2.2), r(-2.4)), "#f5a623"),
     };
     [("d", format!("M{} {}{shape}", px(x), px(y))), ("fill", fill.to_string())]
+}
+
+/// Two slanted strokes where an axis is cut.
+pub fn cut(svg: &mut Svg, x: f64, y: f64) {
+    let path = format!("M{} {}l4 -10M{} {}l4 -10", px(x - 4.0), px(y + 5.0), px(x), px(y + 5.0));
+    svg.empty("path", &[("class", "cut".to_string()), ("d", path), ("stroke", INK.to_string())]);
 }

@@ -3,12 +3,12 @@
 use crate::calendar::moment;
 use crate::labels::{Area, Room};
 use crate::layout::*;
-use crate::marks::{mark, name, INK};
+use crate::marks::{cut, mark, name, INK};
 use crate::page::{History, Line, Method};
 use crate::sensors::{limits, SENSORS};
 use crate::svg::{placed, px, text_width, Svg};
 use crate::time_axis::TimeAxis;
-use crate::value_axis::ValueAxis;
+use crate::value_axis::{ValueAxis, ValuePart};
 use serve::fault::decimal;
 
 const LABEL_HEIGHT: f64 = 11.0;
@@ -39,19 +39,11 @@ impl<'a> Panel<'a> {
     }
 
     pub fn draw(&self, svg: &mut Svg) {
-        let axis = &self.values;
-        svg.open(
-            "g",
-            &[
-                ("class", "panel".to_string()),
-                ("data-sensor", self.sensor.to_string()),
-                ("data-coefficient", self.coefficient.to_string()),
-                ("data-low", axis.low.to_string()),
-                ("data-high", axis.high.to_string()),
-                ("data-top", px(axis.top)),
-                ("data-bottom", px(axis.bottom)),
-            ],
-        );
+        let names = [
+            ("data-sensor", self.sensor.to_string()),
+            ("data-coefficient", self.coefficient.to_string()),
+        ];
+        svg.open("g", &[&[("class", "panel".to_string())][..], &names].concat());
         self.heading(svg);
         self.ground(svg);
         self.value_ticks(svg);
@@ -88,81 +80,83 @@ impl<'a> Panel<'a> {
         std::iter::once((OPENING_LEFT, OPENING_RIGHT)).chain(parts).collect()
     }
 
-    /// Grey outside the limits, light in the band between them, with a dashed line at each limit that is in view.
+    /// The ground of each part of the axis of values, and the cut between two.
     fn ground(&self, svg: &mut Svg) {
-        let axis = &self.values;
-        let [low, high] = self.limits;
-        let (band_top, band_bottom) = (axis.y_in_view(high), axis.y_in_view(low));
-        for (left, right) in self.frames() {
-            let area = |top: f64, bottom: f64| {
-                [
-                    ("x", px(left)),
-                    ("y", px(top)),
-                    ("width", px(right - left)),
-                    ("height", px(bottom - top)),
-                ]
-            };
-            svg.empty(
-                "rect",
-                &[&area(axis.top, axis.bottom)[..], &[("fill", "#bbb".to_string())]].concat(),
-            );
-            let band = [("class", "band".to_string()), ("fill", "#f4f7f2".to_string())];
-            svg.empty("rect", &[&area(band_top, band_bottom)[..], &band].concat());
-            self.grid(svg, left, right);
-            for limit in self.limits.into_iter().filter(|limit| axis.shows(*limit)) {
-                let path = format!("M{} {}H{}", px(left), px(axis.y(limit)), px(right));
-                svg.empty(
-                    "path",
-                    &[
-                        ("class", "limit".to_string()),
-                        ("d", path),
-                        ("stroke", INK.to_string()),
-                        ("stroke-dasharray", "6 3".to_string()),
-                    ],
-                );
+        for part in &self.values.parts {
+            let stated = [("data-low", part.low.to_string()), ("data-high", part.high.to_string())];
+            let place = [("data-top", part.top.to_string()), ("data-bottom", part.bottom.to_string())];
+            svg.open("g", &[&[("class", "ground".to_string())][..], &stated, &place].concat());
+            for (left, right) in self.frames() {
+                self.frame(svg, part, left, right);
             }
-            let frame = [("fill", "none".to_string()), ("stroke", "#777".to_string())];
-            svg.empty("rect", &[&area(axis.top, axis.bottom)[..], &frame].concat());
+            svg.close("g");
+        }
+        for pair in self.values.parts.windows(2) {
+            cut(svg, OPENING_LEFT, (pair[0].top + pair[1].bottom) / 2.0);
         }
     }
 
-    fn grid(&self, svg: &mut Svg, left: f64, right: f64) {
-        let axis = &self.values;
-        let rows = axis
-            .ticks()
-            .into_iter()
-            .map(|(value, _)| format!("M{} {}H{}", px(left), px(axis.y(value)), px(right)));
-        let ticks = self.times.map_or(Vec::new(), TimeAxis::seconds);
-        let columns = ticks
-            .iter()
-            .filter(|tick| (left..=right).contains(&tick.x))
-            .map(|tick| format!("M{} {}V{}", px(tick.x), px(axis.top), px(axis.bottom)));
-        let path: String = rows.chain(columns).collect();
+    /// Grey outside the limits, light in the band between them, with a dashed line at each limit that is in view.
+    fn frame(&self, svg: &mut Svg, part: &ValuePart, left: f64, right: f64) {
+        let area = |top: f64, bottom: f64| {
+            [
+                ("x", px(left)),
+                ("y", px(top)),
+                ("width", px(right - left)),
+                ("height", px(bottom - top)),
+            ]
+        };
+        let [low, high] = self.limits;
         svg.empty(
-            "path",
-            &[("d", path), ("stroke", "#d9ddd6".to_string()), ("fill", "none".to_string())],
+            "rect",
+            &[&area(part.top, part.bottom)[..], &[("fill", "#bbb".to_string())]].concat(),
         );
+        if low <= part.high && part.low <= high {
+            let band = [("class", "band".to_string()), ("fill", "#f4f7f2".to_string())];
+            svg.empty("rect", &[&area(part.y_in_view(high), part.y_in_view(low))[..], &band].concat());
+        }
+        self.grid(svg, part, left, right);
+        for limit in self.limits.into_iter().filter(|limit| part.shows(*limit)) {
+            let path = format!("M{} {}H{}", px(left), px(part.y(limit)), px(right));
+            let line = [("stroke", INK.to_string()), ("stroke-dasharray", "6 3".to_string())];
+            svg.empty("path", &[&[("class", "limit".to_string()), ("d", path)][..], &line].concat());
+        }
+        let frame = [("fill", "none".to_string()), ("stroke", "#777".to_string())];
+        svg.empty("rect", &[&area(part.top, part.bottom)[..], &frame].concat());
+    }
+
+    fn grid(&self, svg: &mut Svg, part: &ValuePart, left: f64, right: f64) {
+        let values = self.values.ticks();
+        let rows = values.iter().filter(|tick| (part.top..=part.bottom).contains(&tick.y));
+        let rows = rows.map(|tick| format!("M{} {}H{}", px(left), px(tick.y), px(right)));
+        let times = self.times.map_or(Vec::new(), TimeAxis::seconds);
+        let columns = times.iter().filter(|tick| (left..=right).contains(&tick.x));
+        let columns = columns.map(|tick| format!("M{} {}V{}", px(tick.x), px(part.top), px(part.bottom)));
+        let path: String = rows.chain(columns).collect();
+        if !path.is_empty() {
+            svg.empty(
+                "path",
+                &[("d", path), ("stroke", "#d9ddd6".to_string()), ("fill", "none".to_string())],
+            );
+        }
     }
 
     fn value_ticks(&self, svg: &mut Svg) {
         svg.open("g", &[("class", "values".to_string())]);
-        for (value, text) in self.values.ticks() {
-            let y = self.values.y(value);
-            let path = format!("M{} {}h4", px(OPENING_LEFT - 4.0), px(y));
+        for tick in self.values.ticks() {
+            let path = format!("M{} {}h4", px(OPENING_LEFT - 4.0), px(tick.y));
             svg.empty("path", &[("d", path), ("stroke", "#777".to_string())]);
-            let inside = y.clamp(self.values.top + 4.0, self.values.bottom - 2.0);
-            svg.text("text", &placed(CAPTIONS, inside + 3.5, "end", SMALL), &text);
+            let inside = tick.y.clamp(self.values.top + 4.0, self.values.bottom - 2.0);
+            svg.text("text", &placed(CAPTIONS, inside + 3.5, "end", SMALL), &tick.text);
         }
         svg.close("g");
     }
 
     /// The whole range between the limits, and in black what of it is in view.
     fn gauge(&self, svg: &mut Svg) {
-        let (axis, [low, high]) = (&self.values, self.limits);
-        let whole = ValueAxis { low, high, ..*axis };
-        let (top, bottom) = (whole.y_in_view(axis.high), whole.y_in_view(axis.low));
-        let height = (bottom - top).max(2.0);
-        let top = top.min(axis.bottom - height);
+        let [low, high] = self.limits;
+        let (top, bottom) = (self.values.top, self.values.bottom);
+        let whole = ValuePart { low, high, top, bottom };
         let area = |top: f64, height: f64| {
             [
                 ("x", px(GAUGE_LEFT)),
@@ -173,9 +167,16 @@ impl<'a> Panel<'a> {
         };
         svg.open("g", &[("class", "gauge".to_string())]);
         let colours = [("fill", "#f4f7f2".to_string()), ("stroke", "#777".to_string())];
-        svg.empty("rect", &[&area(axis.top, axis.bottom - axis.top)[..], &colours].concat());
-        svg.empty("rect", &[&area(top, height)[..], &[("fill", INK.to_string())]].concat());
-        for (limit, y) in [(high, axis.top + 8.0), (low, axis.bottom)] {
+        svg.empty("rect", &[&area(top, bottom - top)[..], &colours].concat());
+        for part in &self.values.parts {
+            let (from, to) = (whole.y_in_view(part.high), whole.y_in_view(part.low));
+            let height = (to - from).max(2.0);
+            svg.empty(
+                "rect",
+                &[&area(from.min(bottom - height), height)[..], &[("fill", INK.to_string())]].concat(),
+            );
+        }
+        for (limit, y) in [(high, top + 8.0), (low, bottom)] {
             svg.text(
                 "text",
                 &placed(GAUGE_TEXT, y, "start", SMALL),
@@ -293,9 +294,13 @@ impl<'a> Panel<'a> {
         corners.windows(2).for_each(|pair| room.take(Area::around(pair[0], pair[1], 0.5)));
         let last = corners[corners.len() - 1];
         room.take(Area::around(last, (PLOT_RIGHT, last.1), 0.5));
-        for limit in self.limits.into_iter().filter(|limit| self.values.shows(*limit)) {
-            let y = self.values.y(limit);
-            room.take(Area::around((PLOT_LEFT, y), (PLOT_RIGHT, y), 1.0));
+        for part in &self.values.parts {
+            for limit in self.limits.into_iter().filter(|limit| part.shows(*limit)) {
+                room.take(Area::around((PLOT_LEFT, part.y(limit)), (PLOT_RIGHT, part.y(limit)), 1.0));
+            }
+        }
+        for pair in self.values.parts.windows(2) {
+            room.take(Area::new(PLOT_LEFT, pair[1].bottom - 1.0, PLOT_RIGHT, pair[0].top + 1.0));
         }
         for pair in self.frames().windows(2) {
             room.take(Area::new(pair[0].1 - 1.0, self.values.top, pair[1].0 + 1.0, self.values.bottom));

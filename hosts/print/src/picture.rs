@@ -2,8 +2,8 @@
 
 use crate::calendar::date;
 use crate::layout::*;
-use crate::legend::{self, cut};
-use crate::marks::INK;
+use crate::legend;
+use crate::marks::{cut, INK};
 use crate::page::{History, Page};
 use crate::panel::Panel;
 use crate::sensors::SENSORS;
