@@ -2,6 +2,7 @@
 //! program refuses, and draws the page as an SVG. The picture is made of the page and of nothing else.
 
 pub mod calendar;
+pub mod ground;
 pub mod labels;
 pub mod layout;
 pub mod legend;
