@@ -219,8 +219,8 @@ def steps(name, panel, places):
     check(float(rest[3]) >= max(x for x, _ in places), f"{what}: where the dotted line ends")
 
 
-def labels(name, panel, lines):
-    """Each names an entry of the sensor and stands beside its mark; most have one where they are few."""
+def labels(name, drawing, panel, lines):
+    """Each names an entry of the sensor and stands beside its mark, inside the frames; most have one where they are few."""
     entries = {f"{line.index} by {line.technician}" if line.technician else str(line.index): line.index for line in lines if line.index}
     own = {line.index: at for at, line in enumerate(line for line in lines if line.sensor == panel.sensor)}
     seen = [label.text for label in panel.labels]
@@ -231,6 +231,10 @@ def labels(name, panel, lines):
             x, y = start_of(panel.points[own[entries[label.text]]])
             near(float(label.get("x")), x, f"{what}: beside the mark of {label.text}", 6 + 4 * len(label.text))
             near(float(label.get("y")), y + 3, f"{what}: level with the mark of {label.text}", 16)
+            left, right = float(label.get("x")) - 3 * len(label.text), float(label.get("x")) + 3 * len(label.text)
+            check(any(part.left <= left and right <= part.right for part in drawing.parts(panel.sensor)), f"{what}: {label.text} lies across a frame")
+            top, bottom = float(label.get("y")) - 7, float(label.get("y"))
+            check(any(part.top <= top and bottom <= part.bottom for part in panel.parts), f"{what}: {label.text} lies across a frame")
     count = len(own) - 1
     least = {0: 0, 1: 1}.get(count, min(12, count // 2)) if name in ("one", "thirty", "thousand", "alike") else 0
     check(len(seen) >= least, f"{what}: {len(seen)} labels of {count} entries")
@@ -285,7 +289,7 @@ def picture(name, words, status, data, said):
         value_axis(name, panel)
         limits(name, panel)
         points(name, drawing, panel, lines)
-        labels(name, panel, lines)
+        labels(name, drawing, panel, lines)
     nothing_overlaps(name, drawing)
 
 
