@@ -73,15 +73,16 @@ class Screen:
         return [self.at(x, y) for y in range(int(top), int(bottom)) for x in range(int(left), int(right))]
 
 
-def shot(name, drawing):
-    """The browser's picture of the upper part; None where it makes none."""
+def shot(name, width):
+    """Why the browser made no picture of the upper part; None where it did."""
     path = FOLDER / f"{name}.png"
     words = [CHROMIUM, "--headless", "--no-sandbox", "--disable-gpu", "--disable-dev-shm-usage", "--hide-scrollbars", "--force-device-scale-factor=1"]
-    words += [f"--user-data-dir={FOLDER}/profile", f"--screenshot={path}", f"--window-size={drawing.width:.0f},{HEIGHT}"]
-    done = subprocess.run([*words, (FOLDER / f"{name}.svg").as_uri()], capture_output=True, timeout=60)
-    if check(done.returncode == 0 and path.exists(), f"{name}: {CHROMIUM} made no picture: {done.stderr[-300:]}"):
-        return Screen(path)
-    return None
+    words += [f"--user-data-dir={FOLDER}/profile", f"--screenshot={path}", f"--window-size={width:.0f},{HEIGHT}"]
+    try:
+        done = subprocess.run([*words, (FOLDER / f"{name}.svg").as_uri()], capture_output=True, timeout=120)
+    except (OSError, subprocess.TimeoutExpired) as error:
+        return str(error)
+    return None if done.returncode == 0 and path.exists() else f"exit status {done.returncode}: {done.stderr[-300:]}"
 
 
 def colour_of(text):
@@ -91,8 +92,11 @@ def colour_of(text):
 
 def drawn(name):
     drawing = Drawing((FOLDER / f"{name}.svg").read_bytes())
-    screen = shot(name, drawing)
-    if screen is None or not equal((screen.width, screen.height), (int(drawing.width), HEIGHT), f"{name}: the picture's size"):
+    fault = shot(name, drawing.width)
+    if not check(fault is None, f"{name}: {CHROMIUM} made no picture, {fault}"):
+        return
+    screen = Screen(FOLDER / f"{name}.png")
+    if not equal((screen.width, screen.height), (int(drawing.width), HEIGHT), f"{name}: the picture's size"):
         return
     sample = [screen.at(x, y) for y in range(0, HEIGHT, 3) for x in range(0, screen.width, 3)]
     check(len(set(sample)) >= 12, f"{name}: {len(set(sample))} colours")
@@ -126,6 +130,13 @@ def texts(name, drawing, screen):
     equal(blank, [], f"{name}: texts that aren't drawn")
 
 
+# A browser that can't draw an empty picture says nothing of these.
+(FOLDER / "empty-svg.svg").write_text('<svg xmlns="http://www.w3.org/2000/svg" width="9" height="9"/>')
+unable = shot("empty-svg", 100)
+if unable:
+    print(f"SKIPPED: {CHROMIUM} draws nothing on this machine, not an empty picture either ({unable})")
+    print("pictures in a browser: none drawn")
+    sys.exit()
 for each in ("one", "thirty", "thousand"):
     drawn(each)
 checks.ended("pictures in a browser")
