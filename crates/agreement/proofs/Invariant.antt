@@ -18,7 +18,8 @@ use Rattle.journal.specs.Valid.{chainOf, valid}
 use Rattle.journal.specs.Replay.{replayOf, replays}
 use Rattle.journal.proofs.Tests.{sensor-cases, four-intro}
 use Rattle.journal.proofs.Chains.{indices-ascend, indices-member, chain-ends}
-use Rattle.journal.proofs.Holds.{Holds, holds-valid, holds-used, holds-chain, holds-replay}
+use Rattle.journal.proofs.Holds.{Holds, holds-valid, holds-is, holds-used, holds-chain, holds-replay}
+use Rattle.page.specs.Print.{printOf}
 use Rattle.sensors.specs.declared.Setup.{Setup}
 use Rattle.sensors.proofs.Setups.{active-parts}
 use Rattle.state.specs.Sonde.{setupAt}
@@ -77,7 +78,7 @@ module _ {x : State} {b : Model} (h : Invariant x b) where
 
   -- all that demand 3 asks of the two after the last call
   pub agree : Agree x b
-  unfolding auditOf
+  unfolding auditOf printOf
   agree =
       record {
         free = h .holds .free;
@@ -98,4 +99,5 @@ module _ {x : State} {b : Model} (h : Invariant x b) where
         technician = h .matches .technician-is;
         setups = setup-same (h .matches);
         audited = rw (agrees-with, holds-used (x .volume) (b .journal) (h .holds));
+        printed = λ page. rw (volume-valid, holds-is (x .volume) (b .journal) (h .holds));
       }

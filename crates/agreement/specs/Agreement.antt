@@ -12,6 +12,8 @@ use Rattle.journal.specs.Journal.{IsSensor, ofSensor, indicesFrom, ascends, lat
 use Rattle.journal.specs.Layout.{layout}
 use Rattle.journal.specs.Valid.{chain, chainOf, member}
 use Rattle.journal.specs.Replay.{replayOf}
+use Rattle.page.specs.Page.{pageOf}
+use Rattle.page.specs.Print.{printedOn, printOf}
 use Rattle.state.specs.Sonde.{setupAt}
 use Rattle.service.specs.Calls.{freshOf, beginOf, auditOf}
 use Rattle.agreement.specs.Model.{Model, setupOf, modelStart}
@@ -49,6 +51,8 @@ pub record Agree (x : State) (b : Model) : Type 0 where
   pub setups : (s : ℕ) → IsSensor s → setupAt (x .sonde) s ≡ setupOf (b .setups) s
   -- audit gives 0 and the number of entries
   pub audited : auditOf (x .sonde) (x .volume) ≡ record { number = 0; entries = length (b .journal .entries) }
+  -- document 02, wish 4: what is printed is the book's page, its openings and entries in order, on any page that is lent
+  pub printed : (page : List ℕ) → printOf (x .volume) page ≡ printedOn (pageOf (b .journal)) page
 
 -- what holds of any list of calls after a fresh and a begin
 pub record Agreement (address : ℕ) (words : List ℕ) (calls : List Call) : Type 0 where
