@@ -9,7 +9,7 @@ ghost use Rattle.printout.specs.Printout.{unsound, printoutOf};
 use refusals::numbers;
 use words::word;
 
-// The most bytes of a file that is printed, and of the words of such a file; the most bytes of what is written.
+// The most bytes of a file that is printed, its words, and the most bytes that are written for a file: the lines of 1000 entries.
 pub const MOST_BYTES: usize = 48128;
 
 const MOST_WORDS: usize = 24064;
