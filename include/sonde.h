@@ -2,7 +2,7 @@
  * The register service of a water-quality sonde over Modbus RTU and ASCII: four sensors, their calibration, and the journal of every accepted
  * calibration.
  *
- * Seven calls. Each is a function of its arguments alone: no call keeps anything, allocates, blocks or fails to return. The sonde goes in and
+ * Eight calls. Each is a function of its arguments alone: no call keeps anything, allocates, blocks or fails to return. The sonde goes in and
  * comes back by value; the host keeps it between calls. The volume (the words of the journal) is the host's memory and is lent for the call.
  * Calls on different sondes and volumes may run at the same time.
  *
@@ -179,6 +179,16 @@ SondeAudit sonde_audit(Sonde sonde, const uint16_t *volume, size_t words);
  *        1 1 1     7       1000 00000000 3FA00000 00000000
  */
 SondePrint sonde_print(const uint16_t *volume, size_t words, uint8_t *page, size_t page_len);
+
+/*
+ * One round of the CRC-16 of Modbus RTU: the running sum after a word, its low byte first and then its high byte, for every sum and word, with no loop.
+ * It has no number and refuses nothing. A checksum begins at 0xFFFF and takes a round for each two bytes of a frame, the earlier one as the word's low half; an
+ * odd last byte goes on its own, by a round too. The checksum stands behind the frame, low byte first, and over both the sum is 0.
+ *     uint16_t sum = 0xFFFF;
+ *     for (; n > 1; n -= 2, bytes += 2) sum = sonde_crc_round(sum, (uint16_t)(bytes[0] | bytes[1] << 8));
+ *     if (n == 1) sum = sonde_crc_round((uint16_t)((sum ^ bytes[0]) << 8), 0) ^ (sum >> 8);
+ */
+uint16_t sonde_crc_round(uint16_t sum, uint16_t word);
 
 #ifdef __cplusplus
 }

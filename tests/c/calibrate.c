@@ -1,8 +1,8 @@
 /*
  * A host in C, through include/sonde.h: begins a volume, calibrates sensor 2 over frames (two points), reads the calibration back, powers up
  * and audits, then does the same in ASCII, and in both framings side by side; then an update that fails for its limits alone, read back and
- * corrected; then technicians who give their numbers, and the entries that name them; at last it prints a journal. Each step is compared with the bytes
- * and numbers that documents 01 and 02 give; the exit status is 1 where one differs.
+ * corrected; then technicians who give their numbers, and the entries that name them; then it prints a journal, and at last it sums frames by rounds of the
+ * CRC. Each step is compared with the bytes and numbers that documents 01 and 02 give; the exit status is 1 where one differs.
  */
 #include <stdio.h>
 #include <string.h>
@@ -419,6 +419,53 @@ static void on_paper(void) {
     put_on_paper(volume, 0, SONDE_INVALID, "", "paper: number 4 before number 7");
 }
 
+/* The CRC by the library's rounds: the earlier byte is the word's low half, and an odd last byte goes on its own. */
+static uint16_t summed(const uint8_t *bytes, size_t n) {
+    uint16_t sum = 0xFFFF;
+    for (; n > 1; n -= 2, bytes += 2) sum = sonde_crc_round(sum, (uint16_t)(bytes[0] | bytes[1] << 8));
+    if (n == 1) sum = sonde_crc_round((uint16_t)((sum ^ bytes[0]) << 8), 0) ^ (sum >> 8);
+    return sum;
+}
+
+/* The sum after a word's low byte and then its high byte, by bits. */
+static uint16_t by_bits(uint16_t sum, uint16_t word) {
+    for (int bit = 0; bit < 16; bit++) {
+        if (bit == 0) sum ^= word & 0xFF;
+        if (bit == 8) sum ^= word >> 8;
+        sum = sum & 1 ? (sum >> 1) ^ 0xA001 : sum >> 1;
+    }
+    return sum;
+}
+
+static void in_rounds(void) {
+    uint8_t bytes[300];
+    check(sonde_crc_round(0xFFFF, 0x3231) == 0xF595, "rounds: \"12\"");
+    check(sonde_crc_round(0, 0) == 0 && sonde_crc_round(0x1234, 0x1234) == 0, "rounds: a sum and the same word leave 0");
+    check(sonde_crc_round(0xFFFF, 0x3231) != sonde_crc_round(0xFFFF, 0x3132), "rounds: the bytes of a word aren't alike");
+    check(summed((const uint8_t *)"123456789", 9) == 0x4B37, "rounds: \"123456789\", four words and the odd byte");
+    check(summed((const uint8_t *)"", 0) == 0xFFFF, "rounds: no bytes");
+
+    bool same = true;
+    for (uint32_t sum = 0; sum < 0x10000; sum++) {
+        uint16_t word = (uint16_t)(sum * 40503 + 7);
+        same &= sonde_crc_round((uint16_t)sum, word) == by_bits((uint16_t)sum, word) && sonde_crc_round((uint16_t)sum, 0) == by_bits((uint16_t)sum, 0);
+    }
+    check(same, "rounds: every sum, with two words each");
+    for (size_t i = 0; i < sizeof bytes; i++) bytes[i] = (uint8_t)(i * 37 + i / 7);
+    for (size_t n = 0; n <= sizeof bytes; n++) same &= summed(bytes, n) == crc(bytes, n);
+    check(same, "rounds: every length up to 300");
+
+    /* A request summed by rounds is answered, and its reply's checksum is theirs too. */
+    uint8_t request[8] = {17, 3, 0, 0, 0, 1};
+    uint16_t sum = summed(request, 6);
+    request[6] = sum & 0xFF;
+    request[7] = sum >> 8;
+    check(summed(request, 8) == 0, "rounds: a frame with its checksum leaves 0");
+    SondeMade made = sonde_begin(sonde_fresh(17).sonde, volume, WORDS);
+    SondeFrame f = sonde_frame(made.sonde, request, 8, reply, SONDE_REPLY_BYTES, volume, WORDS, 0, false);
+    check(f.number == SONDE_OK && f.length == 7 && memcmp(reply, "\x11\x03\x02\x00\x03", 5) == 0 && summed(reply, 7) == 0, "rounds: the reply leaves 0");
+}
+
 int main(void) {
     in_rtu();
     in_ascii();
@@ -426,5 +473,6 @@ int main(void) {
     failed_update();
     technicians();
     on_paper();
+    in_rounds();
     return failed;
 }

@@ -31,6 +31,7 @@ static SondeFrame answer;
 static SondeAudit audit;
 static SondePrint printed;
 static uint8_t page[SONDE_MOST_PAGE_BYTES];
+static uint16_t sum;
 
 /* The bytes of stack that f takes. */
 static size_t taken(void (*f)(void)) {
@@ -57,12 +58,14 @@ static void call_frame(void) {
 }
 static void call_audit(void) { audit = sonde_audit(sonde, volume, WORDS); }
 static void call_print(void) { printed = sonde_print(volume, WORDS, page, sizeof page); }
+static void call_crc_round(void) { sum = sonde_crc_round(sum, 0x3231); }
 
-enum { NOTHING, FRESH, BEGIN, POWER_UP, MEASURE, FRAME, AUDIT, PRINT, CALLS };
+enum { NOTHING, FRESH, BEGIN, POWER_UP, MEASURE, FRAME, AUDIT, PRINT, CRC_ROUND, CALLS };
 
 static const struct { const char *name; void (*f)(void); } calls[CALLS] = {
     {"no call", call_nothing}, {"sonde_fresh", call_fresh}, {"sonde_begin", call_begin}, {"sonde_power_up", call_power_up},
     {"sonde_measure", call_measure}, {"sonde_frame", call_frame}, {"sonde_audit", call_audit}, {"sonde_print", call_print},
+    {"sonde_crc_round", call_crc_round},
 };
 static size_t most[CALLS];
 
@@ -167,6 +170,9 @@ int main(int argc, char **argv) {
     expect(audit.number == SONDE_OK && audit.entries == 1000, "the audit of 1000 entries");
     measured(PRINT);
     expect(printed.number == SONDE_OK && printed.length == sizeof page && page[sizeof page - 1] == '\n', "the print of 1000 entries");
+    sum = 0xFFFF;
+    measured(CRC_ROUND);
+    expect(sum == 0xF595, "a round of the CRC");
     make(MEASURE);
     make(POWER_UP);
     for (int i = 0; i < 2; i++) {

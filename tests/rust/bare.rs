@@ -6,7 +6,7 @@
 use core::error::Error as _;
 use core::ffi::c_int;
 use core::panic::PanicInfo;
-use sonde::{page_bytes, print, Arrival, Error, Sonde, ASCII_REPLY_BYTES};
+use sonde::{crc_round, page_bytes, print, Arrival, Error, Sonde, ASCII_REPLY_BYTES};
 
 #[link(name = "c")]
 extern "C" {
@@ -51,13 +51,18 @@ fn is_printed() -> Result<bool, Error> {
     Ok(whole && page[page_bytes(0)] == 0xAA && print(&volume, &mut []) == Err(Error::ShortPage))
 }
 
+/// A request with its checksum behind it leaves the sum 0.
+fn is_summed() -> bool {
+    [0x0301, 0x0000, 0x0100, 0x0A84].into_iter().fold(0xFFFF, crc_round) == 0
+}
+
 #[no_mangle]
 pub extern "C" fn main() -> c_int {
     let refused = Sonde::fresh(0).map(|_| ()).unwrap_err();
-    if refused != Error::BadAddress || refused.source().is_some() || !is_answered() || is_printed() != Ok(true) {
+    if refused != Error::BadAddress || refused.source().is_some() || !is_answered() || is_printed() != Ok(true) || !is_summed() {
         return 1;
     }
-    let told = b"a host without std was answered, and has printed\n";
+    let told = b"a host without std was answered, has printed and summed\n";
     // SAFETY: the bytes are valid for their length.
     (unsafe { write(1, told.as_ptr(), told.len()) } != told.len() as isize).into()
 }

@@ -1,7 +1,8 @@
-// The seven calls for programs in C, as include/sonde.h declares them. A slice is a pointer and a length there. The frame call is put together
+// The calls for programs in C, as include/sonde.h declares them. A slice is a pointer and a length there. The frame call is put together
 // here: a function in between that takes a sonde and hands it back would cost a copy of it.
 ghost use mathlib.Core.Path.{_≡_};
 ghost use Rattle.page.specs.Print.{printed, printOf};
+ghost use Rattle.rtu.specs.Rounds.{crcWord};
 ghost use Rattle.service.specs.Calls.{begun, freshOf, beginOf, powerUpOf, measureOf, auditOf};
 ghost use Rattle.service.specs.Frame.{arrival, outcome, frameOf};
 ghost use Rattle.service.specs.Framings.{AnswersBytes};
@@ -124,4 +125,11 @@ pub extern "C" fn sonde_print(volume: &[u16], page: &mut [u8]) -> SondePrint
     ensures { λ r. ⌜ printed r (now (page .exit)) ≡ printOf (now (volume .entry)) (now (page .entry)) ⌝ }
 {
     printing::print(volume, page)
+}
+
+#[no_mangle]
+pub extern "C" fn sonde_crc_round(sum: u16, word: u16) -> u16
+    ensures { λ r. ⌜ r ≡ crcWord sum word ⌝ }
+{
+    rtu::crc::round(sum, word)
 }

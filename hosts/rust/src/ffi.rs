@@ -151,4 +151,5 @@ extern "C" {
     ) -> Frame;
     pub fn sonde_audit(sonde: Sonde, volume: *const u16, words: usize) -> Audit;
     pub fn sonde_print(volume: *const u16, words: usize, page: *mut u8, page_len: usize) -> Print;
+    pub fn sonde_crc_round(sum: u16, word: u16) -> u16;
 }

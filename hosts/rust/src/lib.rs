@@ -386,3 +386,39 @@ pub fn print<'a>(volume: &[u16], page: &'a mut [u8]) -> Result<&'a [u8], Error> 
     let printed = unsafe { ffi::sonde_print(volume.as_ptr(), volume.len(), page.as_mut_ptr(), page.len()) };
     done(printed.number).map(|()| &page[..printed.length as usize])
 }
+
+/// One round of the CRC-16 of Modbus RTU: the running sum after a word, its low byte first and then its high byte.
+///
+/// A checksum begins at 0xFFFF and takes a round for each two bytes of a frame, the earlier one as the word's low half. An odd last byte goes on
+/// its own, by a round too. The checksum stands behind the frame, low byte first.
+///
+/// ```
+/// use sonde::{crc_round, Arrival, Sonde, REPLY_BYTES};
+///
+/// fn checksum(bytes: &[u8]) -> u16 {
+///     bytes.chunks(2).fold(0xFFFF, |sum, bytes| match *bytes {
+///         [low, high] => crc_round(sum, u16::from_le_bytes([low, high])),
+///         _ => crc_round((sum ^ u16::from(bytes[0])) << 8, 0) ^ sum >> 8,
+///     })
+/// }
+///
+/// assert_eq!(checksum(b"123456789"), 0x4B37);
+///
+/// // A read of register 0, the version of the map, with its checksum.
+/// let mut request = vec![1, 3, 0, 0, 0, 1];
+/// request.extend(checksum(&request).to_le_bytes());
+/// assert_eq!(checksum(&request), 0);
+///
+/// let mut volume = [0; 88];
+/// let mut sonde = Sonde::fresh(1)?;
+/// sonde.begin(&mut volume)?;
+/// let mut buffer = [0; REPLY_BYTES];
+/// let reply = sonde.frame(&request, &mut buffer, &mut volume, Arrival::rtu(0))?;
+/// assert_eq!(reply, [1, 3, 2, 0, 3, 0xF8, 0x45]);
+/// assert_eq!(checksum(reply), 0);
+/// # Ok::<(), sonde::Error>(())
+/// ```
+pub fn crc_round(sum: u16, word: u16) -> u16 {
+    // SAFETY: a call by value alone.
+    unsafe { ffi::sonde_crc_round(sum, word) }
+}
