@@ -1,5 +1,5 @@
-// The library's CRC-16 compared with that of a table: the checksums of published frames, of every byte, and of messages of every length.
-// What the program prints is held to its file stdout.
+// The library's CRC-16 compared with that of a table: the checksums of published frames, of every byte, and of messages of every length, and the
+// round of every sum. What the program prints is held to its file stdout.
 mod table; // CRC-16 by a table
 
 ghost use mathlib.Core.Path.{_≡_};
@@ -93,6 +93,21 @@ fn sweep_lengths() -> Tally {
     tally
 }
 
+// Whether the round of a sum and a word is the table's step of the low byte and then of the high byte.
+fn is_round(sum: u16, word: u16) -> bool {
+    rtu::crc::round(sum, word) == table::step(table::step(sum, words::low(word)), words::high(word))
+}
+
+// Every sum, each with a word of its own.
+fn sweep_sums() -> Tally {
+    let mut tally = Tally::none();
+    for sum in 0u32..65536 {
+        let word = sum * 40503 % 65536;
+        tally = tally.with(is_round(sum as u16, word as u16));
+    }
+    tally
+}
+
 fn main() {
     let mut space = [0u8; 131072];
     let n = io::read_full(STDIN_FILENO, &mut space);
@@ -103,5 +118,6 @@ fn main() {
     let frames = compare_frames(&space[..n]);
     sweep_bytes().print(b" messages of one byte, every byte, ");
     sweep_lengths().print(b" messages of one pattern, every length from 0 to 256, ");
+    sweep_sums().print(b" rounds, every sum, ");
     frames.print(b" frames, ");
 }

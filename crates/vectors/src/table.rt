@@ -261,7 +261,7 @@ const TABLE: [u16; 256] = [
 ];
 
 // One byte: the high half goes down, joined by exclusive or to the table's entry for the low half joined to the byte.
-fn step(crc: u16, byte: u8) -> u16 {
+pub fn step(crc: u16, byte: u8) -> u16 {
     let low = (crc ^ (byte as u16)) % 256;
     (crc >> 8) ^ TABLE[low as usize]
 }

@@ -2,7 +2,7 @@
 //! library, so that a difference between the two (`src/bin/compare`) shows a mistake in one of them. It is also the baseline of speed.
 //!
 //! The modules follow the paper: words and floats, checksum, the two framings, calibration, the sonde's state, the register map, readings,
-//! the volume with its journal, its page, requests and replies, the seven calls. `book` is the control book of demand 3.
+//! the volume with its journal, its page, requests and replies, the calls. `book` is the control book of demand 3.
 
 #![forbid(unsafe_code)]
 
@@ -22,6 +22,6 @@ pub mod state;
 pub mod volume;
 
 pub use calls::{audit, begin, frame, fresh, measure, power_up, print};
-pub use crc::crc;
+pub use crc::{crc, crc_round};
 pub use framing::Framing;
 pub use state::Sonde;

@@ -1,4 +1,4 @@
-//! The proved library's seven calls, behind slices. Its interface asks for pointers that are valid for their lengths, aligned, not null and
+//! The proved library's calls, behind slices. Its interface asks for pointers that are valid for their lengths, aligned, not null and
 //! don't overlap: those of slices are.
 
 use sonde::ffi::{self, Audit, Frame, Made, Print, Sonde};
@@ -43,4 +43,8 @@ pub fn audit(sonde: Sonde, volume: &[u16]) -> Audit {
 
 pub fn print(volume: &[u16], page: &mut [u8]) -> Print {
     unsafe { ffi::sonde_print(volume.as_ptr(), volume.len(), page.as_mut_ptr(), page.len()) }
+}
+
+pub fn crc_round(sum: u16, word: u16) -> u16 {
+    unsafe { ffi::sonde_crc_round(sum, word) }
 }

@@ -3,7 +3,8 @@
 //! every register of the map, read by frames on copies. Frames of a list are RTU or ASCII at random, and some are also sent in both
 //! framings, to copies, where the effect has to be the same. Clean lists are also held to the control book (demand 3), and so are the pages
 //! that they print; lists of corrupted sondes and volumes are apart. Wherever it is known whether a frame is bad or a volume valid, both are
-//! held to that, and so is the fault that the serial host names. At the end the run has to have met everything that `coverage` requires.
+//! held to that, and so is the fault that the serial host names. At the end the run has to have met everything that `coverage` requires. The
+//! rounds of the CRC, which take no sonde, are compared by themselves, at every sum.
 
 mod before;
 mod both;
@@ -17,6 +18,7 @@ mod library;
 mod lists;
 mod printed;
 mod random;
+mod rounds;
 mod values;
 
 use coverage::Coverage;
@@ -116,7 +118,7 @@ fn run_all(options: &Options) -> Result<Vec<Lists>, String> {
     })
 }
 
-fn report(shares: &[Lists]) -> ExitCode {
+fn report(shares: &[Lists], rounds: &str) -> ExitCode {
     let mut coverage = Coverage::default();
     shares.iter().for_each(|lists| coverage.merge(&lists.coverage));
     let calls: u64 = shares.iter().map(|lists| lists.calls).sum();
@@ -130,7 +132,7 @@ fn report(shares: &[Lists]) -> ExitCode {
     }
     let both: u64 = shares.iter().map(|lists| lists.in_both_framings).sum();
     println!(
-        "{calls} calls and {registers} registers compared, {}, {both} requests in both framings, {}, faults asked of {volumes} volumes, no difference",
+        "{calls} calls and {registers} registers compared, {}, {both} requests in both framings, {}, {rounds}, faults asked of {volumes} volumes, no difference",
         coverage.ascii(),
         coverage.prints()
     );
@@ -150,8 +152,8 @@ fn main() -> ExitCode {
         }
     };
     println!("seed {}", options.seed);
-    match run_all(&options) {
-        Ok(shares) => report(&shares),
+    match rounds::compare(options.seed).and_then(|rounds| Ok((run_all(&options)?, rounds))) {
+        Ok((shares, rounds)) => report(&shares, &rounds),
         Err(difference) => {
             println!("{difference}");
             ExitCode::FAILURE
