@@ -1,12 +1,16 @@
 /*
  * libmodbus answering from memory: its RTU server on a line that is two arrays. It reads, waits and writes by read, select and write of the
- * C library; those of this file stand before them, serve the one descriptor of the line, and hand all others on to the kernel.
+ * C library; those of this file stand before them, serve the one descriptor of the line, and hand all others on to the kernel. Before some of its
+ * exceptions it sleeps and flushes the line, for half a second: this line has nothing to wait for, and nothing to flush.
  */
 #define _GNU_SOURCE
 #include <modbus/modbus.h>
 #include <string.h>
+#include <sys/ioctl.h>
 #include <sys/select.h>
 #include <sys/syscall.h>
+#include <termios.h>
+#include <time.h>
 #include <unistd.h>
 
 enum { LINE = 1000, REGISTERS = 500 };
@@ -38,6 +42,17 @@ int select(int n, fd_set *r, fd_set *w, fd_set *e, struct timeval *timeout)
 {
     if (n != LINE + 1) return (int)syscall(SYS_select, n, r, w, e, timeout);
     return request_left > 0;
+}
+
+int nanosleep(const struct timespec *wanted, struct timespec *left)
+{
+    if (left) memset(left, 0, sizeof *left);
+    return wanted->tv_nsec < 0;
+}
+
+int tcflush(int fd, int queue)
+{
+    return fd == LINE ? 0 : (int)syscall(SYS_ioctl, fd, TCFLSH, queue);
 }
 
 /* The reply's length to a frame; 0 where the frame gets none. */

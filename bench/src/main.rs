@@ -1,38 +1,56 @@
 //! Prints how long the proved library takes beside the second implementation and libmodbus, and how many instructions.
 //!
-//! Times are the least of several rounds in which the sides take turns, in one run; the ratio is what counts. Instructions are counted by
+//! Times are the least of several rounds in which all rows and sides take turns, in one run; the ratio is what counts. Instructions are counted by
 //! `valgrind --tool=callgrind`, which this program starts on itself: a run with calls less a run without them.
 
 mod rows;
 mod sides;
 
-use rows::{rows, Row, SUMMED};
+use bench::collected;
+use rows::{rows, Row};
 use sides::{side, Side, NAMES};
-use std::process::Command;
 use std::time::Instant;
 
-const ROUNDS: usize = 15;
+const ROUNDS: usize = 60;
 const ROUND_NS: f64 = 2e6;
 
-/// Nanoseconds of a call, side by side.
-fn times(row: &Row) -> [Option<f64>; 3] {
-    let mut sides: Vec<Option<Box<dyn Side>>> = NAMES.iter().map(|name| taking_part(row, name)).collect();
-    for side in sides.iter_mut().flatten() {
+/// A row of one side, and the least nanoseconds of a call so far.
+struct Timed {
+    side: Box<dyn Side>,
+    least: Option<f64>,
+}
+
+impl Timed {
+    fn new(row: &Row, mut side: Box<dyn Side>) -> Timed {
         row.prepare(side.as_mut());
+        Timed { side, least: None }
     }
-    let mut least = [None; 3];
+
+    fn round(&mut self, row: &Row) {
+        let calls = (ROUND_NS / self.least.unwrap_or(20_000.0)).ceil() as usize;
+        let start = Instant::now();
+        row.repeat(self.side.as_mut(), calls);
+        let time = start.elapsed().as_nanos() as f64 / calls as f64;
+        self.least = Some(self.least.map_or(time, |least| least.min(time)));
+    }
+}
+
+/// Nanoseconds of a call, row by row and side by side. The rounds of a row are spread over the run, so that a time in which the machine is slow
+/// doesn't fall on one row.
+fn times(rows: &[Row]) -> Vec<Sides> {
+    let mut timed: Vec<[Option<Timed>; 3]> = rows
+        .iter()
+        .map(|row| NAMES.map(|name| taking_part(row, name).map(|side| Timed::new(row, side))))
+        .collect();
     for _ in 0..ROUNDS {
-        for (least, side) in least.iter_mut().zip(&mut sides) {
-            if let Some(side) = side {
-                let calls = (ROUND_NS / least.unwrap_or(20_000.0)).ceil() as usize;
-                let start = Instant::now();
-                row.repeat(side.as_mut(), calls);
-                let time = start.elapsed().as_nanos() as f64 / calls as f64;
-                *least = Some(least.map_or(time, |least: f64| least.min(time)));
-            }
+        for (row, sides) in rows.iter().zip(&mut timed) {
+            sides.iter_mut().flatten().for_each(|side| side.round(row));
         }
     }
-    least
+    timed
+        .iter()
+        .map(|sides| sides.each_ref().map(|side| side.as_ref()?.least))
+        .collect()
 }
 
 fn taking_part(row: &Row, name: &str) -> Option<Box<dyn Side>> {
@@ -45,18 +63,7 @@ const COUNTED: usize = 64;
 /// Instructions of a call; `None` where the side doesn't take part or valgrind isn't installed.
 fn instructions(index: usize, row: &Row, name: &str) -> Option<f64> {
     taking_part(row, name)?;
-    let count = |calls: usize| -> Option<f64> {
-        let program = std::env::current_exe().ok()?;
-        let output = Command::new("valgrind")
-            .args(["--tool=callgrind", "--callgrind-out-file=/dev/null"])
-            .arg(program)
-            .args([index.to_string(), name.to_string(), calls.to_string()])
-            .output()
-            .ok()?;
-        let text = String::from_utf8_lossy(&output.stderr);
-        let line = text.lines().find(|line| line.contains("Collected :"))?;
-        line.split_whitespace().last()?.parse().ok()
-    };
+    let count = |calls: usize| collected(&[index.to_string(), name.to_string(), calls.to_string()]);
     Some((count(COUNTED)? - count(0)?) / COUNTED as f64)
 }
 
@@ -103,28 +110,34 @@ fn main() {
     println!("| work | library ns | twin ns | libmodbus ns | to twin | to libmodbus | library instr. | twin instr. | libmodbus instr. | to twin |");
     println!("|---|---|---|---|---|---|---|---|---|---|");
     let rows = rows();
-    let results: Vec<(Sides, Sides)> = rows
-        .iter()
+    let results: Vec<(Sides, Sides)> = times(&rows)
+        .into_iter()
+        .zip(&rows)
         .enumerate()
-        .map(|(index, row)| {
-            let (times, counts) = (times(row), NAMES.map(|name| instructions(index, row, name)));
+        .map(|(index, (times, row))| {
+            let counts = NAMES.map(|name| instructions(index, row, name));
             print(&row.name, times, counts, 1.0);
             (times, counts)
         })
         .collect();
     let of = |name| results[rows.iter().position(|row| row.name == name).expect("a row")];
     let less = |long: Sides, short: Sides| -> Sides { std::array::from_fn(|i| Some(long[i]? - short[i]?)) };
-    let each_byte = |name, long, short| {
+    let each_byte = |name, long, short, bytes| {
         let (long, short): ((Sides, Sides), (Sides, Sides)) = (of(long), of(short));
         let times = less(long.0, short.0);
-        print(name, times, less(long.1, short.1), SUMMED);
-        times
+        print(name, times, less(long.1, short.1), bytes);
+        times.map(|time| time.map(|time| time / bytes))
     };
-    let checksum = each_byte("checksum, each byte", rows::LONG, rows::SHORT);
-    each_byte("ASCII: decoding and checksum, each byte", rows::ASCII_LONG, rows::ASCII_SHORT);
+    let checksum = each_byte("checksum, each byte", rows::BAD_255, rows::BAD_8, rows::SUMMED);
+    each_byte(
+        "ASCII: decoding and checksum, each byte",
+        rows::ASCII_LONG,
+        rows::ASCII_SHORT,
+        rows::DECODED,
+    );
     let speeds = NAMES
         .iter()
         .zip(checksum)
-        .filter_map(|(name, time)| Some(format!("{name} {:.0}", 1000.0 * SUMMED / time?)));
+        .filter_map(|(name, time)| Some(format!("{name} {:.0}", 1000.0 / time?)));
     println!("\nchecksum, million bytes in a second: {}", speeds.collect::<Vec<_>>().join(", "));
 }

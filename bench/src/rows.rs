@@ -51,13 +51,16 @@ fn row(name: impl Into<String>, entries: usize, work: Work, libmodbus: bool) -> 
     }
 }
 
-/// A write of 123 registers: 253 bytes.
-fn long_body() -> Vec<u8> {
-    [&[1, 16, 0, 0, 0, 123, 246][..], &[0x5A; 246]].concat()
+/// A body of so many bytes: a read of register 0, or from 7 on a write of as many registers as fit. That of 7 has no byte for its register, that
+/// of 254 one too many.
+fn body_of(bytes: usize) -> Vec<u8> {
+    if bytes < 7 {
+        return body(3, 0, 1);
+    }
+    let data = bytes - 7;
+    let registers = (data / 2).max(1);
+    [&[1, 16, 0, 0, 0, registers as u8, data as u8][..], &vec![0x5A; data]].concat()
 }
-
-/// The same with one register: 9 bytes.
-const SHORT_BODY: [u8; 9] = [1, 16, 0, 0, 0, 1, 2, 0x5A, 0x5A];
 
 /// A frame whose CRC is wrong.
 fn bad(body: &[u8]) -> Vec<u8> {
@@ -74,18 +77,19 @@ fn bad_ascii(body: &[u8]) -> Vec<u8> {
     frame
 }
 
-/// Bytes that `long_body` has and `SHORT_BODY` hasn't.
-pub const SUMMED: f64 = 244.0;
-
 /// The rows whose difference is the checksum of `SUMMED` bytes.
-pub const LONG: &str = "long bad frame";
-pub const SHORT: &str = "short bad frame";
+pub const BAD_255: &str = "bad frame of 255 bytes";
+pub const BAD_8: &str = "bad frame of 8 bytes";
+pub const SUMMED: f64 = 247.0;
 
-/// The rows whose difference is the decoding and the checksum of `SUMMED` bytes.
+/// The rows whose difference is the decoding and the checksum of `DECODED` bytes: bodies of 253 and of 9.
 pub const ASCII_LONG: &str = "ASCII: long bad frame";
 pub const ASCII_SHORT: &str = "ASCII: short bad frame";
+pub const DECODED: f64 = 244.0;
 
-/// New rows are the last, so that the others keep their numbers.
+/// Frames of these lengths, their checksum included, are measured good and bad.
+const LENGTHS: [usize; 5] = [8, 9, 63, 255, 256];
+
 pub fn rows() -> Vec<Row> {
     let mut rows = vec![
         row("read of 1 register", 0, Work::Frame(words(3, 0, 1)), true),
@@ -102,8 +106,6 @@ pub fn rows() -> Vec<Row> {
         row("update, accepted", 0, Work::Update, true),
         row("refused: absent register", 0, Work::Frame(words(3, 0x2500, 1)), true),
         row("another's frame", 0, Work::Frame(framed(&[2, 3, 0, 0, 0, 1])), true),
-        row(SHORT, 0, Work::Frame(bad(&SHORT_BODY)), true),
-        row(LONG, 0, Work::Frame(bad(&long_body())), true),
     ];
     for entries in [0, 1, 10, 100, 1000] {
         rows.push(row(format!("audit, {entries} entries"), entries, Work::Audit, false));
@@ -118,6 +120,14 @@ pub fn rows() -> Vec<Row> {
     }
     rows.extend(ascii_rows());
     rows.push(row("print, 1000 entries", 1000, Work::Print, false));
+    for length in LENGTHS {
+        let frame = bad(&body_of(length - 2));
+        rows.push(row(format!("bad frame of {length} bytes"), 0, Work::Frame(frame), true));
+    }
+    for length in LENGTHS {
+        let frame = framed(&body_of(length - 2));
+        rows.push(row(format!("good frame of {length} bytes"), 0, Work::Frame(frame), true));
+    }
     rows
 }
 
@@ -126,8 +136,8 @@ fn ascii_rows() -> [Row; 5] {
         ("ASCII: read of 1 register", ascii(&body(3, 0, 1))),
         ("ASCII: read of 24 registers, the longest", ascii(&body(3, 130, 24))),
         ("ASCII: write of one word", ascii(&body(6, 133, 2))),
-        (ASCII_SHORT, bad_ascii(&SHORT_BODY)),
-        (ASCII_LONG, bad_ascii(&long_body())),
+        (ASCII_SHORT, bad_ascii(&body_of(9))),
+        (ASCII_LONG, bad_ascii(&body_of(253))),
     ];
     frames.map(|(name, frame)| row(name, 0, Work::Ascii(frame), false))
 }
