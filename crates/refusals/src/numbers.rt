@@ -16,3 +16,5 @@ pub const NO_SENSOR: u8 = 5;
 pub const RAW_NOT_FINITE: u8 = 6;
 // Page too short.
 pub const SHORT_PAGE: u8 = 7;
+// A volume that no choice of its chain words makes valid.
+pub const BEYOND_SALVAGE: u8 = 8;
