@@ -1,19 +1,15 @@
 -- What comes of a frame as the code hands it on: how it counts, the reply's body, and what it changes of the sonde and of the volume. No reader
 -- has to believe these definitions: `steps-left` (frames/proofs/Steps) says that they leave what the definition of the frame call does.
 -- Assumes nothing.
-use mathlib.Core.Path.{_≡_}
 use mathlib.Core.List.{List}
-use Prim.Native.Nat.{ℕ, _<_}
-use lib.ListN.{length, getD}
-use Rattle.journal.specs.Journal.{IsSensor}
-use Rattle.journal.specs.Words.{capacityOf}
+use Prim.Native.Nat.{ℕ}
+use lib.ListN.{length}
 use Rattle.journal.specs.Stores.{appendsOf}
 use Rattle.sensors.specs.declared.Sensor.{Sensor}
 use Rattle.registers.specs.declared.Device.{Device}
 use Rattle.modbus.specs.declared.Header.{Header}
 use Rattle.commands.specs.Commands.{codeOf, setupAfter, technicianAfter, entriesOf}
 use Rattle.commands.specs.declared.Written.{Written}
-use Rattle.commands.specs.declared.Written.the-variants.{Refused, Failed, Stored, Updated, Technician}
 use Rattle.state.specs.declared.Event.{Event}
 use Rattle.service.specs.Frame.{eventOf, writeBody}
 use Rattle.execution.specs.declared.Change.{Change}
@@ -38,17 +34,4 @@ effectOf x = record { event = x .event; size = length (x .body); change = x .cha
 abbrev pub writeStep : Header → List ℕ → List ℕ → Device → Sensor → Written → Step
 writeStep h body w e s y =
     step (eventOf (codeOf y)) (writeBody h body (codeOf y)) (Changed (setupAfter (s .setup) y)) (technicianAfter (e .technician) y)
-    (appendsOf w (entriesOf y))
-
--- an entry that is to be appended has room, and a sensor
-abbrev pub Appendable : List ℕ → Written → Type 0
-Appendable w (Refused code) = Unit {0}
-Appendable w (Failed t) = Unit {0}
-Appendable w (Stored t) = Unit {0}
-Appendable w (Updated t e) = IsSensor (e .sensor) × (getD w 2 0 < getD w 1 0)
-Appendable w (Technician n) = Unit {0}
-
--- the device's capacity and entries in use are the volume's
-pub record Counts (e : Device) (w : List ℕ) : Type 0 where
-  pub capacity-is : e .capacity ≡ capacityOf (length w)
-  pub used-is : e .used ≡ getD w 2 0
+    (appendsOf 27 w (entriesOf y))

@@ -1,9 +1,7 @@
 // What comes of a frame, from the parts of the sonde that it needs. The frame call is put together in `sonde`.
 ghost use mathlib.Core.Path.{_≡_};
-ghost use mathlib.Core.Bool.{true};
 ghost use Prim.Native.Nat.{_≤_};
 ghost use lib.ListN.{length};
-ghost use Rattle.journal.specs.Valid.{valid};
 ghost use Rattle.words.specs.Overlay.{overlay};
 ghost use Rattle.words.specs.Bytes.{Bytes};
 ghost use Rattle.framing.specs.Framing.{roomIn};
@@ -57,7 +55,7 @@ fn answer(
     body: &[u8],
     arrival: Arrival,
 ) -> Effect
-    requires { ⌜ (256 ≤ length (now reply)) × (length (now body) ≤ 254) × (valid (now volume) ≡ true) × Facts (now body) plan ⌝ }
+    requires { ⌜ (256 ≤ length (now reply)) × (length (now body) ≤ 254) × Facts (now body) plan ⌝ }
     ensures { λ r. ⌜ r ≡ effectOf (stepOf own (deviceOf counters technician (now (volume .entry)) arrival) sensor header (now (body .entry)) (now (volume .entry)) plan) ⌝ }
     ensures { λ _. ⌜ now (reply .exit) ≡ overlay (stepOf own (deviceOf counters technician (now (volume .entry)) arrival) sensor header (now (body .entry)) (now (volume .entry)) plan .body) (now (reply .entry)) ⌝ }
     ensures { λ _. ⌜ now (volume .exit) ≡ stepOf own (deviceOf counters technician (now (volume .entry)) arrival) sensor header (now (body .entry)) (now (volume .entry)) plan .volume ⌝ }
@@ -114,7 +112,7 @@ pub fn serve(
     sensor: Sensor,
     arrival: Arrival,
 ) -> Served
-    requires { ⌜ (roomIn (arrival .ascii) ≤ length (now reply)) × (length (now body) ≤ 254) × (valid (now volume) ≡ true) × (judged ≡ judgedOf own (now body)) ⌝ }
+    requires { ⌜ (roomIn (arrival .ascii) ≤ length (now reply)) × (length (now body) ≤ 254) × (judged ≡ judgedOf own (now body)) ⌝ }
     ensures { λ r. ⌜ r ≡ servedOf (arrival .ascii) (stepFor own (deviceOf counters technician (now (volume .entry)) arrival) sensor (carriedBy (now (body .entry))) (now (volume .entry))) ⌝ }
     ensures { λ _. ⌜ now (reply .exit) ≡ overlay (replyOf (arrival .ascii) (stepFor own (deviceOf counters technician (now (volume .entry)) arrival) sensor (carriedBy (now (body .entry))) (now (volume .entry)) .body)) (now (reply .entry)) ⌝ }
     ensures { λ _. ⌜ now (volume .exit) ≡ stepFor own (deviceOf counters technician (now (volume .entry)) arrival) sensor (carriedBy (now (body .entry))) (now (volume .entry)) .volume ⌝ }

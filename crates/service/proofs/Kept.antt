@@ -19,10 +19,10 @@ use Rattle.modbus.specs.declared.Header.{Header}
 use Rattle.modbus.specs.declared.Value.{Value}
 use Rattle.entries.specs.declared.Entry.{Entry}
 use Rattle.fields.specs.declared.Field.{Field}
-use Rattle.journal.specs.Journal.{IsSensor}
 use Rattle.journal.specs.Layout.{place}
-use Rattle.journal.specs.Stores.{appendOf, appendsOf}
+use Rattle.journal.specs.Stores.{spareFor, appendOf, appendsOf}
 use Rattle.journal.specs.Valid.{valid}
+use Rattle.journal.proofs.Stores.{spare-parts, append-all, append-none}
 use Rattle.journal.proofs.Facts.{valid-length, valid-last}
 use Rattle.journal.proofs.Kept.{append-keeps, append-used, begin-keeps as begin-words}
 use Rattle.audit.specs.Audit.{replayed}
@@ -39,7 +39,6 @@ use Rattle.writes.proofs.Laws.{Journalled, nothing, entry, journalled}
 use Rattle.writes.proofs.Updates.{refused-leaves, refused-journals, refused-technician}
 use Rattle.plans.specs.declared.Plan.{Plan}
 use Rattle.plans.specs.declared.Plan.the-variants.{Bad, Foreign, BroadcastRead, Refused, Reading, Writing}
-use Rattle.plans.proofs.Plans.{Facts}
 use Rattle.state.specs.Sonde.{addressValid, validSonde, sonde, noSensor, sensorAt, setupAt, withSensor, withSetup, withTechnician}
 use Rattle.state.specs.declared.Event.the-variants.{Exception}
 use Rattle.state.specs.declared.Sonde.{Sonde}
@@ -52,7 +51,7 @@ use Rattle.service.specs.Refusals.{refusedLeaves}
 use Rattle.service.specs.declared.Arrival.{Arrival}
 use Rattle.service.specs.declared.SondeMade.{SondeMade}
 use Rattle.service.specs.declared.SondeAudit.{SondeAudit}
-use Rattle.service.proofs.Parts.{agrees-parts, frame-facts}
+use Rattle.service.proofs.Parts.{agrees-parts}
 use Rattle.service.proofs.Owners.{device-write, sensor-write, sensor-update}
 
 -- ---- a number
@@ -218,26 +217,32 @@ same : (w : List ℕ) → Keeps w w
 same w = record { whole = λ e. refl; free = refl }
 
 module _ (w : List ℕ) (v : valid w ≡ true) (a : Arrival) where
-  append-volume : (e : Entry) → IsSensor (e .sensor) → Keeps w (appendOf w e)
-  append-volume e k =
-      let u = append-used w e (omega (arith, valid-length w v)) in
-      record { whole = λ q. absurd (omega (arith, q, u)); free = rw u (append-keeps w e k (valid-last w v (e .sensor) k)) }
+  append-volume : (e : Entry) → Keeps w (appendOf w e)
+  append-volume e = go (spareFor w e) refl
+    where
+      go : (b : Bool) → spareFor w e ≡ b → Keeps w (appendOf w e)
+      go true h =
+          let k = spare-parts w e h .0 in
+          let u = append-used w e (omega (arith, valid-length w v)) in
+          rw (append-all w e 27 (omega arith) h)
+          (record { whole = λ q. absurd (omega (arith, q, u)); free = rw u (append-keeps w e k (valid-last w v (e .sensor) k)) })
+      go false h = rw (append-none w e 27 h) (same w)
 
-  write-volume : (s : ℕ) → IsSensor s → {x t : Setup} {c : Context} {code : ℕ} {es : List Entry} → Journalled s x t c code es → Keeps w (appendsOf w es)
-  write-volume s k (nothing h) = same w
-  write-volume s k (entry e z r i q g f) = append-volume e (rw i k)
+  write-volume : {s : ℕ} {x t : Setup} {c : Context} {code : ℕ} {es : List Entry} → Journalled s x t c code es → Keeps w (appendsOf 27 w es)
+  write-volume (nothing h) = same w
+  write-volume (entry e z r i q g f) = append-volume e
 
-  planned-volume : (d : Sonde) (h : Header) (body : List ℕ) (p : Plan) → Facts body p → Keeps w (planned d h body w a p .volume)
+  planned-volume : (d : Sonde) (h : Header) (body : List ℕ) (p : Plan) → Keeps w (planned d h body w a p .volume)
   unfolding carriedOut
-  planned-volume d h body Bad k = same w
-  planned-volume d h body Foreign k = same w
-  planned-volume d h body BroadcastRead k = same w
-  planned-volume d h body (Refused code) k = same w
-  planned-volume d h body (Reading start count) k = same w
-  planned-volume d h body (Writing zero f x) k = rw (device-write (deviceIn d w a) (sensorAt d 0) f x) (same w)
-  planned-volume d h body (Writing (suc s) f x) k =
+  planned-volume d h body Bad = same w
+  planned-volume d h body Foreign = same w
+  planned-volume d h body BroadcastRead = same w
+  planned-volume d h body (Refused code) = same w
+  planned-volume d h body (Reading start count) = same w
+  planned-volume d h body (Writing zero f x) = rw (device-write (deviceIn d w a) (sensorAt d 0) f x) (same w)
+  planned-volume d h body (Writing (suc s) f x) =
       rw (sensor-write (deviceIn d w a) (sensorAt d (suc s)) f x (suc s) (omega arith))
-      (write-volume (suc s) (omega arith, k .located .owner-most) (journalled (suc s) (sensorAt d (suc s) .setup) f _ _ (contextOf (deviceIn d w a))))
+      (write-volume (journalled (suc s) (sensorAt d (suc s) .setup) f _ _ (contextOf (deviceIn d w a))))
 
 -- what a frame keeps, refused or not
 pub record FrameKeeps (reply w : List ℕ) (o : Outcome) : Type 0 where
@@ -263,6 +268,6 @@ frame-keeps d frame reply w a =
     answered : agrees d w ≡ true → FrameKeeps reply w (left (answerTo d frame w a) (a .ascii) reply)
     answered f =
         let v = agrees-parts d w f .volume-valid in
-        let k = planned-volume w v a d (headerOf (bodyOf c)) (bodyOf c) (planFor (d .address) c) (frame-facts (d .address) c) in
+        let k = planned-volume w v a d (headerOf (bodyOf c)) (bodyOf c) (planFor (d .address) c) in
         let bytes = replyOf (a .ascii) (answerOf d c w a .body) in
         record { whole = k .whole; free = k .free; past = drop-append-seam bytes (drop (length bytes) reply) }

@@ -6,3 +6,4 @@ pub mod Owners
 pub mod Registers
 pub mod Refusals
 pub mod Technicians
+pub mod Cuts

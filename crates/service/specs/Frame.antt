@@ -15,6 +15,7 @@ use Rattle.modbus.specs.declared.Header.{Header}
 use Rattle.modbus.specs.declared.Value.{Value}
 use Rattle.modbus.specs.declared.Value.the-variants.{Words, Mask}
 use Rattle.replies.specs.Reply.{writtenBody, exceptionBody, replyOf}
+use Rattle.entries.specs.declared.Entry.{Entry}
 use Rattle.fields.specs.declared.Field.{Field}
 use Rattle.journal.specs.Stores.{appendsOf}
 use Rattle.sensors.specs.declared.Sensor.{Sensor}
@@ -96,9 +97,9 @@ isUpdate o x f v = not (eqb o 0) && (eqb (f .offset) 5 && eqb (firstWord (sensor
 unfoldable pub sondeAfter : Sonde → ℕ → Written → Sonde
 sondeAfter d o x = withTechnician (withSetup d o (setupAfter (setupAt d o) x)) (technicianAfter (d .technician) x)
 
--- an update also appends its entry
+-- an update also appends its entry, by all of its 27 stores
 unfoldable pub carriedOut : Sonde → Header → List ℕ → List ℕ → ℕ → Written → Answer
-carriedOut d h body w o x = answer (eventOf (codeOf x)) (writeBody h body (codeOf x)) (sondeAfter d o x) (appendsOf w (entriesOf x))
+carriedOut d h body w o x = answer (eventOf (codeOf x)) (writeBody h body (codeOf x)) (sondeAfter d o x) (appendsOf 27 w (entriesOf x))
 
 -- ---- the frame
 
@@ -119,6 +120,15 @@ codeBy d w a BroadcastRead = 0
 codeBy d w a (Refused code) = code
 codeBy d w a (Reading start count) = 0
 codeBy d w a (Writing o f v) = codeOf (writeAt d w a o f v)
+
+-- the entries that what a frame asks for appends: one by an update that is accepted, else none
+abbrev pub entriesBy : Sonde → List ℕ → Arrival → Plan → List Entry
+entriesBy d w a Bad = []
+entriesBy d w a Foreign = []
+entriesBy d w a BroadcastRead = []
+entriesBy d w a (Refused code) = []
+entriesBy d w a (Reading start count) = []
+entriesBy d w a (Writing o f v) = entriesOf (writeAt d w a o f v)
 
 -- by what a frame carries
 unfoldable pub answerOf : Sonde → Carried → List ℕ → Arrival → Answer
@@ -164,3 +174,11 @@ unfoldable pub frameOf : Sonde → List ℕ → List ℕ → List ℕ → Arriva
 frameOf d frame reply w a =
     cond (ltb (length reply) (roomIn (a .ascii))) (outcome (refusedBy 3 d) reply w)
     (cond (agrees d w) (left (answerTo d frame w a) (a .ascii) reply) (outcome (refusedBy 4 d) reply w))
+
+-- ---- a cut
+
+-- document 02, wish 6: the volume after a frame that was cut behind the first n stores of its append; sonde and reply are lost. A frame that appends
+-- nothing leaves the volume, and so does one that a number refuses
+unfoldable pub cutOf : Sonde → List ℕ → List ℕ → List ℕ → Arrival → ℕ → List ℕ
+cutOf d frame reply w a n =
+    cond (eqb (frameOf d frame reply w a .number) 0) (appendsOf n w (entriesBy d w a (planFor (d .address) (carriedIn (a .ascii) frame)))) w

@@ -1,34 +1,24 @@
 -- Each arm of the plan is a step of the definition. Assumes nothing.
 use mathlib.Core.Path.{refl}
-use mathlib.Core.List.{List}
-use Prim.Native.Nat.{ℕ}
 use Rattle.words.specs.Overlay.{overlay}
-use Rattle.state.specs.declared.Counters.{Counters}
 use Rattle.service.specs.Reads.{deviceOf}
-use Rattle.service.specs.declared.Arrival.{Arrival}
-use Rattle.execution.specs.Steps.{Counts}
 use borrow.Author.Needs.{needs}
 use Rattle.frames.proofs.answer.Statement.{statement}
 use Rattle.frames.proofs.answer.Tie as tie
-
--- the device's values count the volume's entries
-device-counts : (c : Counters) (n : ℕ) (w : List ℕ) (a : Arrival) → Counts (deviceOf c n w a) w
-unfolding deviceOf
-device-counts c n w a = record { capacity-is = refl; used-is = refl }
 
 read-requires : tie.Need-read-requires
 read-requires c κs =
     let p = c .before .before .before .before in
     let x = p .before .before .before .before .before in
-    let f = rw (p .plan2 .given .1) at (x .pre .3) in
+    let f = rw (p .plan2 .given .1) at (x .pre .2) in
     (search needs, f .most, f .block)
 
 write-requires : tie.Need-write-requires
 write-requires c κs =
     let p = c .before .before .before .before .before in
     let x = p .before .before .before .before .before in
-    let f = rw (p .plan3 .given .1) at (x .pre .3) in
-    (search needs, f .long, x .pre .1, f .located .owner-most, f .located .device, search needs, rw (c .device2 .ensures) (device-counts _ _ _ _))
+    let f = rw (p .plan3 .given .1) at (x .pre .2) in
+    (search needs, f .long, x .pre .1, f .located .owner-most, f .located .device)
 
 returns : tie.Need-returns
 unfolding overlay deviceOf

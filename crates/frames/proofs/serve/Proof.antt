@@ -51,14 +51,14 @@ answer-requires : tie.Need-answer-requires
 answer-requires c κs =
     let x = c .before .before .before .before .before in
     let a = x .args in
-    rw (x .pre .3) (omega (arith, x .pre .0, room-least (a .arrival .ascii)), x .pre .1, x .pre .2, facts (a .own) (a .body .now))
+    rw (x .pre .2) (omega (arith, x .pre .0, room-least (a .arrival .ascii)), x .pre .1, facts (a .own) (a .body .now))
 
 seal-requires : tie.Need-seal-requires
 seal-requires c κs =
     let s = c .before .before .before .before .before in
     let x = s .before .before .before .before .before .before in
     let a = x .args in
-    let e = s .answer .ensures .0 ∙ ap effectOf (step-same (a .own) (deviceOf (a .counters) (a .technician) (a .volume .now) (a .arrival)) (a .sensor) (a .body .now) (a .volume .now) (a .judged) (x .pre .3)) in
+    let e = s .answer .ensures .0 ∙ ap effectOf (step-same (a .own) (deviceOf (a .counters) (a .technician) (a .volume .now) (a .arrival)) (a .sensor) (a .body .now) (a .volume .now) (a .judged) (x .pre .2)) in
     (rw e (for-short (a .own) (deviceOf (a .counters) (a .technician) (a .volume .now) (a .arrival)) (a .sensor) (a .body .now) (a .volume .now) (x .pre .1)), search needs)
 
 returns : tie.Need-returns
@@ -67,7 +67,7 @@ returns c =
     let s = l .before .before .before .before .before .before in
     let x = s .before .before .before .before .before .before in
     let a = x .args in
-    let p = step-same (a .own) (deviceOf (a .counters) (a .technician) (a .volume .now) (a .arrival)) (a .sensor) (a .body .now) (a .volume .now) (a .judged) (x .pre .3) in
+    let p = step-same (a .own) (deviceOf (a .counters) (a .technician) (a .volume .now) (a .arrival)) (a .sensor) (a .body .now) (a .volume .now) (a .judged) (x .pre .2) in
     let y = stepFor (a .own) (deviceOf (a .counters) (a .technician) (a .volume .now) (a .arrival)) (a .sensor) (carriedBy (a .body .now)) (a .volume .now) in
     let e : s .answer .result ≡ effectOf y = s .answer .ensures .0 ∙ ap effectOf p in
     let r : s .answer .last .1 .0 ≡ overlay (y .body) (a .reply .now) = s .answer .ensures .1 .0 ∙ ap (λ (z : Step). overlay (z .body) (a .reply .now)) p in
