@@ -2,7 +2,7 @@
  * The register service of a water-quality sonde over Modbus RTU and ASCII: four sensors, their calibration, and the journal of every accepted
  * calibration.
  *
- * Eight calls. Each is a function of its arguments alone: no call keeps anything, allocates, blocks or fails to return. The sonde goes in and
+ * Ten calls. Each is a function of its arguments alone: no call keeps anything, allocates, blocks or fails to return. The sonde goes in and
  * comes back by value; the host keeps it between calls. The volume (the words of the journal) is the host's memory and is lent for the call.
  * Calls on different sondes and volumes may run at the same time.
  *
@@ -12,6 +12,7 @@
  *     uint16_t volume[24064];
  *     uint8_t reply[SONDE_REPLY_BYTES];                 ASCII: SONDE_ASCII_REPLY_BYTES, and true in the place of false below
  *     bool kept = load(volume, 24064);                  false at the very first start
+ *     if (kept) sonde_salvage(volume, 24064);           where the volume is stored in place: see sonde_salvage
  *     SondeMade made = kept ? sonde_power_up(1, volume, 24064) : sonde_fresh(1);
  *     if (!kept && made.number == SONDE_OK) made = sonde_begin(made.sonde, volume, 24064);
  *     if (made.number != SONDE_OK) { ... }
@@ -56,6 +57,7 @@ extern "C" {
 #define SONDE_LEAST_WORDS 88        /* the least volume: capacity 1 */
 #define SONDE_MOST_WORDS 24064      /* words beyond these are never used: capacity 1000 */
 #define SONDE_MOST_PAGE_BYTES 53212 /* the longest page: 1000 entries */
+#define SONDE_APPEND_STORES 27      /* the stores of an append, see sonde_append */
 
 /* The page of a volume with so many entries in use: a line of 53 bytes for each sensor's opening, and for each entry. */
 #define SONDE_PAGE_BYTES(entries) (53 * (4 + (size_t)(entries)))
@@ -70,7 +72,8 @@ enum {
     SONDE_INVALID = 4,        /* the sonde or the volume is invalid, or the calibrations in force aren't the volume's, bit for bit */
     SONDE_NO_SENSOR = 5,      /* measure: the sensor isn't 1..4 */
     SONDE_NOT_FINITE = 6,     /* measure, present: a raw value that is read isn't finite */
-    SONDE_SHORT_PAGE = 7      /* print: the page has fewer bytes than SONDE_PAGE_BYTES of the entries in use */
+    SONDE_SHORT_PAGE = 7,     /* print: the page has fewer bytes than SONDE_PAGE_BYTES of the entries in use */
+    SONDE_BEYOND_SALVAGE = 8  /* salvage: the volume has a fault that no choice of its chain words makes valid */
 };
 
 /* ---- the sonde. A host copies it and need not look inside; a sonde that it builds by hand has to be valid (number 4). ---- */
@@ -116,12 +119,16 @@ typedef struct {
     SondeCounters counters;
 } Sonde;
 
+/* An entry of the journal: an accepted calibration. Points that its method doesn't use are +0.0. */
+typedef struct { uint16_t sensor, method, technician; SondeCalibration calibration; SondePoints points; } SondeEntry;
+
 /* ---- what calls hand back ---- */
 
 typedef struct { uint8_t number; Sonde sonde; } SondeMade;
 typedef struct { uint8_t number; uint16_t length; Sonde sonde; } SondeFrame;
 typedef struct { uint8_t number; uint16_t entries; } SondeAudit;
 typedef struct { uint8_t number; uint32_t length; } SondePrint;
+typedef struct { uint8_t number; uint16_t changed; } SondeSalvage;
 
 /* ---- the calls ---- */
 
@@ -179,6 +186,25 @@ SondeAudit sonde_audit(Sonde sonde, const uint16_t *volume, size_t words);
  *        1 1 1     7       1000 00000000 3FA00000 00000000
  */
 SondePrint sonde_print(const uint16_t *volume, size_t words, uint8_t *page, size_t page_len);
+
+/*
+ * The first `stores` stores of the append of an entry; SONDE_APPEND_STORES and more are all of them. sonde_frame appends by it with all: a host has no
+ * need of it but to try what a cut in the middle of an append leaves. In order, upward: the entry's 24 words at 64 + 24 x (entries in use); the link to
+ * it, which is the next word of the same sensor's previous entry, or the chain's first (words 4..7); the chain's last (words 8..11); the entries in use
+ * (word 2). It has no number and doesn't judge the entry. It stores nothing unless the entry's sensor is 1..4 and word 2 is below the capacity that
+ * `words` gives, so that it spoils no full volume; a link past the end of the volume is no store.
+ */
+void sonde_append(uint16_t *volume, size_t words, SondeEntry entry, size_t stores);
+
+/*
+ * A volume after a supply failed in the middle of an append, for a host that keeps the volume where sonde_frame stores into it (FRAM, battery-backed
+ * RAM, a mapped file) and so may find an entry half written. Call it at each start, before sonde_power_up. Wherever the cut fell, the volume is then
+ * the one from before the append, or the one from after it where the entries in use were stored, in every word but the free ones behind the entries in
+ * use; a calibration whose reply was sent is never lost. It rewrites the chain words of the header (4..11) and the next words of the entries in use, and
+ * nothing else, as the entries' sensors give them; `changed` is how many words differ afterwards, 0 for a valid volume. Refused by 8, in place of 4,
+ * where no choice of those words makes the volume valid; `changed` is then 0, and the volume stays as it was.
+ */
+SondeSalvage sonde_salvage(uint16_t *volume, size_t words);
 
 /*
  * One round of the CRC-16 of Modbus RTU: the running sum after a word, its low byte first and then its high byte, for every sum and word, with no loop.

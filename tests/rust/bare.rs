@@ -6,7 +6,8 @@
 use core::error::Error as _;
 use core::ffi::c_int;
 use core::panic::PanicInfo;
-use sonde::{crc_round, page_bytes, print, Arrival, Error, Sonde, ASCII_REPLY_BYTES};
+use sonde::{append, crc_round, page_bytes, print, salvage, Arrival, Calibration, Entry, Error, Points, Sonde};
+use sonde::{APPEND_STORES, ASCII_REPLY_BYTES};
 
 #[link(name = "c")]
 extern "C" {
@@ -51,6 +52,29 @@ fn is_printed() -> Result<bool, Error> {
     Ok(whole && page[page_bytes(0)] == 0xAA && print(&volume, &mut []) == Err(Error::ShortPage))
 }
 
+/// An append that lacks its last store is taken back; with all stores it is there.
+fn is_salvaged() -> Result<bool, Error> {
+    let mut volume = [0; 88];
+    Sonde::fresh(1)?.begin(&mut volume)?;
+    let calibration = Calibration {
+        coefficient2: 1.25,
+        time: 1000,
+        ..Calibration::default()
+    };
+    let entry = Entry {
+        sensor: 1,
+        method: 0,
+        technician: 7,
+        calibration,
+        points: Points::default(),
+    };
+    append(&mut volume, entry, APPEND_STORES - 1);
+    let before = salvage(&mut volume)? == 2 && Sonde::power_up(1, &volume)?.audit(&volume)? == 0;
+    append(&mut volume, entry, APPEND_STORES);
+    let after = salvage(&mut volume)? == 0 && Sonde::power_up(1, &volume)?.audit(&volume)? == 1;
+    Ok(before && after && salvage(&mut volume[..87]) == Err(Error::BeyondSalvage))
+}
+
 /// A request with its checksum behind it leaves the sum 0.
 fn is_summed() -> bool {
     [0x0301, 0x0000, 0x0100, 0x0A84].into_iter().fold(0xFFFF, crc_round) == 0
@@ -59,10 +83,11 @@ fn is_summed() -> bool {
 #[no_mangle]
 pub extern "C" fn main() -> c_int {
     let refused = Sonde::fresh(0).map(|_| ()).unwrap_err();
-    if refused != Error::BadAddress || refused.source().is_some() || !is_answered() || is_printed() != Ok(true) || !is_summed() {
+    let right = is_answered() && is_printed() == Ok(true) && is_salvaged() == Ok(true) && is_summed();
+    if refused != Error::BadAddress || refused.source().is_some() || !right {
         return 1;
     }
-    let told = b"a host without std was answered, has printed and summed\n";
+    let told = b"a host without std was answered, has printed, salvaged and summed\n";
     // SAFETY: the bytes are valid for their length.
     (unsafe { write(1, told.as_ptr(), told.len()) } != told.len() as isize).into()
 }

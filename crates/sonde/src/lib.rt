@@ -1,13 +1,17 @@
 // The calls for programs in C, as include/sonde.h declares them. A slice is a pointer and a length there. The frame call is put together
 // here: a function in between that takes a sonde and hands it back would cost a copy of it.
 ghost use mathlib.Core.Path.{_≡_};
+ghost use Rattle.journal.specs.Stores.{appendUpTo};
 ghost use Rattle.page.specs.Print.{printed, printOf};
+ghost use Rattle.recovery.specs.Salvage.{salvaged, salvageOf};
 ghost use Rattle.rtu.specs.Rounds.{crcWord};
 ghost use Rattle.service.specs.Calls.{begun, freshOf, beginOf, powerUpOf, measureOf, auditOf};
 ghost use Rattle.service.specs.Frame.{arrival, outcome, frameOf};
 ghost use Rattle.service.specs.Framings.{AnswersBytes};
+use entries::Entry;
 use execution::Change;
 use page::SondePrint;
+use recovery::SondeSalvage;
 use refusals::numbers;
 use service::Arrival;
 use service::SondeAudit;
@@ -125,6 +129,20 @@ pub extern "C" fn sonde_print(volume: &[u16], page: &mut [u8]) -> SondePrint
     ensures { λ r. ⌜ printed r (now (page .exit)) ≡ printOf (now (volume .entry)) (now (page .entry)) ⌝ }
 {
     printing::print(volume, page)
+}
+
+#[no_mangle]
+pub extern "C" fn sonde_append(volume: &mut [u16], entry: Entry, stores: usize)
+    ensures { λ _. ⌜ now (volume .exit) ≡ appendUpTo stores (now (volume .entry)) entry ⌝ }
+{
+    recording::append(volume, entry, stores);
+}
+
+#[no_mangle]
+pub extern "C" fn sonde_salvage(volume: &mut [u16]) -> SondeSalvage
+    ensures { λ r. ⌜ salvaged r (now (volume .exit)) ≡ salvageOf (now (volume .entry)) ⌝ }
+{
+    salvage::salvage(volume)
 }
 
 #[no_mangle]

@@ -100,6 +100,17 @@ pub struct Sonde {
     pub counters: Counters,
 }
 
+/// An entry of the journal: an accepted calibration. Points that its method doesn't use are +0.0.
+#[repr(C)]
+#[derive(Clone, Copy, Debug, Default, PartialEq)]
+pub struct Entry {
+    pub sensor: u16,
+    pub method: u16,
+    pub technician: u16,
+    pub calibration: Calibration,
+    pub points: Points,
+}
+
 /// What fresh, power-up and measure hand back.
 #[repr(C)]
 #[derive(Clone, Copy, Debug)]
@@ -133,6 +144,14 @@ pub struct Print {
     pub length: u32,
 }
 
+/// What a salvage hands back.
+#[repr(C)]
+#[derive(Clone, Copy, Debug)]
+pub struct Salvage {
+    pub number: u8,
+    pub changed: u16,
+}
+
 extern "C" {
     pub fn sonde_fresh(address: u8) -> Made;
     pub fn sonde_begin(sonde: Sonde, volume: *mut u16, words: usize) -> Made;
@@ -151,5 +170,7 @@ extern "C" {
     ) -> Frame;
     pub fn sonde_audit(sonde: Sonde, volume: *const u16, words: usize) -> Audit;
     pub fn sonde_print(volume: *const u16, words: usize, page: *mut u8, page_len: usize) -> Print;
+    pub fn sonde_append(volume: *mut u16, words: usize, entry: Entry, stores: usize);
+    pub fn sonde_salvage(volume: *mut u16, words: usize) -> Salvage;
     pub fn sonde_crc_round(sum: u16, word: u16) -> u16;
 }

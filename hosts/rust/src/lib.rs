@@ -69,6 +69,8 @@ use core::fmt;
 
 pub mod ffi;
 
+pub use ffi::{Calibration, Entry, Points};
+
 /// The least reply buffer for an RTU frame; a reply is never longer.
 pub const REPLY_BYTES: usize = 256;
 /// The least reply buffer for an ASCII frame; the longest reply has 511 characters.
@@ -77,6 +79,8 @@ pub const ASCII_REPLY_BYTES: usize = 513;
 pub const LEAST_WORDS: usize = 88;
 /// Words beyond these are never used: a journal of 1000 calibrations.
 pub const MOST_WORDS: usize = 24064;
+/// The stores of an append: see [`append`].
+pub const APPEND_STORES: usize = 27;
 /// The longest page: a journal of 1000 calibrations.
 pub const MOST_PAGE_BYTES: usize = page_bytes(1000);
 
@@ -115,6 +119,8 @@ pub enum Error {
     NotFinite = 6,
     /// Print: the page has fewer than [`page_bytes`] of the entries in use.
     ShortPage = 7,
+    /// Salvage: the volume has a fault that no choice of its chain words makes valid.
+    BeyondSalvage = 8,
 }
 
 impl fmt::Display for Error {
@@ -127,6 +133,7 @@ impl fmt::Display for Error {
             Error::NoSensor => "the sensor is not 1 to 4",
             Error::NotFinite => "a raw value is not finite",
             Error::ShortPage => "the page is too short for all lines of the journal",
+            Error::BeyondSalvage => "the volume has a fault that no choice of its chain words mends",
         })
     }
 }
@@ -144,6 +151,7 @@ fn done(number: u8) -> Result<(), Error> {
         5 => Err(Error::NoSensor),
         6 => Err(Error::NotFinite),
         7 => Err(Error::ShortPage),
+        8 => Err(Error::BeyondSalvage),
         _ => panic!("the library gave the number {number}, which this crate doesn't know"),
     }
 }
@@ -385,6 +393,56 @@ pub fn print<'a>(volume: &[u16], page: &'a mut [u8]) -> Result<&'a [u8], Error> 
     // SAFETY: the slices are valid for their lengths, lent for the call, and can't overlap.
     let printed = unsafe { ffi::sonde_print(volume.as_ptr(), volume.len(), page.as_mut_ptr(), page.len()) };
     done(printed.number).map(|()| &page[..printed.length as usize])
+}
+
+/// The first `stores` stores of the append of an entry; [`APPEND_STORES`] and more are all of them. [`Sonde::frame`] appends by it with all: a host
+/// has no need of it but to try what a cut in the middle of an append leaves.
+///
+/// In order, upward: the entry's 24 words; the link to it, which is the next word of the same sensor's previous entry or the chain's first; the
+/// chain's last; the entries in use. Nothing is stored unless the entry's sensor is 1 to 4 and an entry is spare. See [`salvage`] for an example.
+pub fn append(volume: &mut [u16], entry: Entry, stores: usize) {
+    // SAFETY: the slice is valid for its length and lent for the call.
+    unsafe { ffi::sonde_append(volume.as_mut_ptr(), volume.len(), entry, stores) }
+}
+
+/// A volume after a supply failed in the middle of an append: how many words differ afterwards, 0 for a valid volume. For a host that keeps the
+/// volume where [`Sonde::frame`] stores into it and so may find an entry half written, at each start and before [`Sonde::power_up`].
+///
+/// Wherever the cut fell, the volume is then the one from before the append, or the one from after it where the entries in use were stored, in every
+/// word but the free ones. The chain words of the header (4 to 11) and the next words of the entries in use are rewritten, and nothing else. Where no
+/// choice of those words makes the volume valid, it stays as it was.
+///
+/// ```
+/// use sonde::{append, salvage, Calibration, Entry, Error, Points, Sonde, APPEND_STORES};
+///
+/// let mut volume = [0; 112];
+/// let sonde = Sonde::fresh(1)?;
+/// sonde.begin(&mut volume)?;
+/// assert_eq!(salvage(&mut volume), Ok(0));
+///
+/// // Sensor 1, by its coefficients; the supply fails when the last word but one is stored.
+/// let calibration = Calibration { coefficient1: 0.0, coefficient2: 1.25, coefficient3: 0.0, time: 1000 };
+/// let entry = Entry { sensor: 1, method: 0, technician: 7, calibration, points: Points::default() };
+/// append(&mut volume, entry, APPEND_STORES - 1);
+/// assert_eq!(Sonde::power_up(1, &volume).unwrap_err(), Error::Invalid);
+///
+/// // The volume from before: of the chain of sensor 1 the first and the last are 0 again.
+/// assert_eq!(salvage(&mut volume), Ok(2));
+/// assert_eq!(sonde.audit(&volume), Ok(0));
+///
+/// // With all stores it is the volume from after.
+/// append(&mut volume, entry, APPEND_STORES);
+/// assert_eq!(salvage(&mut volume), Ok(0));
+/// assert_eq!(Sonde::power_up(1, &volume)?.audit(&volume), Ok(1));
+///
+/// volume[64 + 1] = 5; // no sensor
+/// assert_eq!(salvage(&mut volume), Err(Error::BeyondSalvage));
+/// # Ok::<(), Error>(())
+/// ```
+pub fn salvage(volume: &mut [u16]) -> Result<u16, Error> {
+    // SAFETY: the slice is valid for its length and lent for the call.
+    let salvaged = unsafe { ffi::sonde_salvage(volume.as_mut_ptr(), volume.len()) };
+    done(salvaged.number).map(|()| salvaged.changed)
 }
 
 /// One round of the CRC-16 of Modbus RTU: the running sum after a word, its low byte first and then its high byte.

@@ -99,6 +99,8 @@ fn of_source() -> Layout {
         "SondeFrame",
         "SondeAudit",
         "SondePrint",
+        "Entry",
+        "SondeSalvage",
     ];
     let layout = |name: &str| (measure(name, &structs).0, place(&structs[name], &structs).2);
     shared.into_iter().map(|name| (header_name(name), layout(name))).collect()
@@ -162,6 +164,8 @@ fn of_bindings() -> Layout {
     of!("SondeFrame", Frame: number length sonde);
     of!("SondeAudit", Audit: number entries);
     of!("SondePrint", Print: number length);
+    of!("SondeEntry", Entry: sensor method technician calibration points);
+    of!("SondeSalvage", Salvage: number changed);
     layout
 }
 

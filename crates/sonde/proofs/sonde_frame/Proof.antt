@@ -63,7 +63,7 @@ serve-requires c κs =
     = n .number-of .ensures ∙ rw (v .is-valid .ensures, j .journal-agrees .ensures, o .opening .ensures) in
     let q = passed (a .ascii) (length (a .reply .now)) (agrees (a .t1) (a .volume .now)) (n .number-of .result) e (t .if1 .left) in
     let f = handed-on (a .ascii) (a .frame .now) _ _ (b .body .ensures) (d .decode .ensures .1 .0) in
-    (ltb-false (length (a .reply .now)) (roomIn (a .ascii)) (q .0), rw f (carried-most (a .ascii) (a .frame .now)), agrees-parts (a .t1) (a .volume .now) (q .1) .volume-valid, g .judge .ensures)
+    (ltb-false (length (a .reply .now)) (roomIn (a .ascii)) (q .0), rw f (carried-most (a .ascii) (a .frame .now)), g .judge .ensures)
 
 -- the place of the sensor that the frame names is below 4
 mul-named : tie.Need-mul-named
