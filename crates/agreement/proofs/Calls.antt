@@ -1,7 +1,7 @@
--- A measure, a power-up and a begin keep the invariant and don't give number 4, and the first fresh and begin bring it about.
+-- A measure, a power-up and a begin keep the invariant and give neither number 4 nor 8, and the first fresh and begin bring it about.
 -- Assumes nothing.
 use mathlib.Core.Path.{_≡_, refl, sym, ap, _∙_}
-use mathlib.Core.Bool.{Bool, true, false, not}
+use mathlib.Core.Bool.{Bool, true, false, not, _&&_}
 use mathlib.Core.List.{List}
 use Prim.Native.Nat.{ℕ, _≤_}
 use native.Mathlib.Omega.{arith}
@@ -16,7 +16,7 @@ use Rattle.coefficients.specs.declared.Calibration.{Calibration}
 use Rattle.coefficients.proofs.Bits.{CoefficientsFit}
 use Rattle.entries.specs.Entries.{validCalibration}
 use Rattle.entries.proofs.Entries.{calibrationFits}
-use Rattle.journal.specs.Journal.{IsSensor, ofSensor}
+use Rattle.journal.specs.Journal.{Journal, IsSensor, ofSensor}
 use Rattle.journal.specs.Stores.{beginWords, newJournal}
 use Rattle.journal.proofs.Tests.{sensor-cases, four-intro}
 use Rattle.journal.proofs.Holds.{begin-holds}
@@ -36,9 +36,9 @@ use Rattle.agreement.specs.Accepted.{noted}
 use Rattle.agreement.proofs.Sondes.{Matches, sonde-valid, setup-same, setup-valid, setup-fits, measured, powered-up, fresh-matches}
 use Rattle.agreement.proofs.Invariant.{Invariant, opening-at, volume-valid, replay-same}
 
--- a call gives no number 4, keeps the invariant, and the book's entries are those that were noted
+-- a call gives neither number 4 nor 8, keeps the invariant, and the book's entries are those that were noted
 pub record Keeps (x : State) (b : Model) (c : Call) : Type 0 where
-  pub never-four : not (eqb (numberOf x c) 4) ≡ true
+  pub never-refused : not (eqb (numberOf x c) 4) && not (eqb (numberOf x c) 8) ≡ true
   pub invariant : Invariant (after x c) (modelAfter b c)
   pub entries : modelAfter b c .journal .entries ≡ noted (b .journal .entries) x c
 
@@ -47,10 +47,10 @@ pub record Keeps (x : State) (b : Model) (c : Call) : Type 0 where
 -- "Measure: nothing", whatever the sensor and the raws
 pub measure-keeps : {x : State} {b : Model} → Invariant x b → (s : ℕ) (present : Bool) (raw1 raw2 : Float) → Keeps x b (Measure s present raw1 raw2)
 unfolding numberOf after modelAfter noted measureOf
-measure-keeps {x} {b} h s present raw1 raw2 = record { never-four = go .0; invariant = go .1; entries = refl }
+measure-keeps {x} {b} h s present raw1 raw2 = record { never-refused = go .0; invariant = go .1; entries = refl }
   where
     P : SondeMade → Type 0
-    P r = (not (eqb (r .number) 4) ≡ true) × Invariant (state (r .sonde) (x .volume)) b
+    P r = (not (eqb (r .number) 4) && not (eqb (r .number) 8) ≡ true) × Invariant (state (r .sonde) (x .volume)) b
 
     go : P (measureOf (x .sonde) s present raw1 raw2)
     go =
@@ -69,25 +69,42 @@ setup-powered : (ys : List Setup) (s : ℕ) → IsSensor s → setupOf (poweredS
 unfolding poweredSetups setupOf poweredSetup
 setup-powered ys = sensor-cases (λ s. setupOf (poweredSetups ys) s .active .calibration ≡ setupOf ys s .active .calibration) refl refl refl refl
 
--- the calibrations that the volume gives are the book's
+-- the calibrations that the volume gives are the book's, so that one with a fit address isn't refused
+pub power-up-done : {x : State} {b : Model} → Invariant x b → (address : ℕ) → addressValid address ≡ true
+    → (powerUpOf address (x .volume) .number ≡ 0) × Invariant (state (powerUpOf address (x .volume) .sonde) (x .volume)) (modelPowerUp b address)
+unfolding powerUpOf replayed rejected modelPowerUp
+power-up-done {x} {b} h address v = (
+  rw (v, volume-valid h),
+  rw (v, volume-valid h)
+      (record {
+        matches = powered-up (h .matches) address (x .volume) v (replay-same h);
+        holds = h .holds;
+        followed = λ s k. h .followed s k ∙ sym (setup-powered (b .setups) s k);
+      }),
+)
+
+-- the book's journal stays
+pub power-up-journal : (b : Model) (address : ℕ) → modelPowerUp b address .journal ≡ b .journal
+unfolding modelPowerUp
+power-up-journal b address = choose (λ (c : Model). c .journal ≡ b .journal) (addressValid address) _ _ (λ v. refl) (λ v. refl)
+
+-- a power-up with an unfit address
+power-up-refused : (w : List ℕ) (b : Model) (address : ℕ) → addressValid address ≡ false → (powerUpOf address w .number ≡ 1) × (modelPowerUp b address ≡ b)
+unfolding powerUpOf rejected modelPowerUp
+power-up-refused w b address v = (rw v, rw v)
+
+-- whatever the address
 pub power-up-keeps : {x : State} {b : Model} → Invariant x b → (address : ℕ) → Keeps x b (PowerUp address)
-unfolding numberOf after modelAfter noted powerUpOf replayed rejected modelPowerUp
+unfolding numberOf after modelAfter noted
 power-up-keeps {x} {b} h address = go (addressValid address) refl
   where
     go : (v : Bool) → addressValid address ≡ v → Keeps x b (PowerUp address)
     go true v =
-        record {
-          never-four = rw (numberOf, v, volume-valid h);
-          invariant =
-              rw (v, volume-valid h)
-              (record {
-                matches = powered-up (h .matches) address (x .volume) v (replay-same h);
-                holds = h .holds;
-                followed = λ s k. h .followed s k ∙ sym (setup-powered (b .setups) s k);
-              });
-          entries = rw v;
-        }
-    go false v = record { never-four = rw (numberOf, v); invariant = rw v h; entries = rw v }
+        let p = power-up-done h address v in
+        record { never-refused = rw (numberOf, p .0); invariant = rw (p .0) (p .1); entries = ap (λ (j : Journal). j .entries) (power-up-journal b address) }
+    go false v =
+        let p = power-up-refused (x .volume) b address v in
+        record { never-refused = rw (numberOf, p .0); invariant = rw (p .0, p .1) h; entries = ap (λ (j : Journal). j .entries) (power-up-journal b address) }
 
 -- ---- begin
 
@@ -126,10 +143,10 @@ unfolding numberOf after modelAfter noted beginOf modelBegin
 begin-keeps {x} {b} h w = go (ltb (length w) 88) refl
   where
     go : (l : Bool) → ltb (length w) 88 ≡ l → Keeps x b (Begin w)
-    go true l = record { never-four = rw (numberOf, l); invariant = rw l h; entries = rw l }
+    go true l = record { never-refused = rw (numberOf, l); invariant = rw l h; entries = rw l }
     go false l =
         record {
-          never-four = rw (numberOf, l, sonde-valid (h .matches));
+          never-refused = rw (numberOf, l, sonde-valid (h .matches));
           invariant = rw (l, sonde-valid (h .matches)) (begin-invariant (h .matches) w (ltb-false (length w) 88 l));
           entries = rw (l, sonde-valid (h .matches));
         }

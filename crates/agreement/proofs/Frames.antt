@@ -1,4 +1,4 @@
--- A frame keeps the invariant and doesn't give number 4, whatever its bytes. Assumes nothing.
+-- A frame keeps the invariant and gives neither number 4 nor 8, whatever its bytes. Assumes nothing.
 use mathlib.Core.Path.{_≡_, refl}
 use mathlib.Core.Bool.{Bool, true, false}
 use mathlib.Core.List.{List}
@@ -20,7 +20,7 @@ use Rattle.service.proofs.Parts.{frame-facts}
 use Rattle.agreement.specs.Model.{Model, modelPlanned, modelFrame}
 use Rattle.agreement.specs.Runs.{State, numberOf, after, modelAfter}
 use Rattle.agreement.specs.Runs.Call.{Frame}
-use Rattle.agreement.specs.Accepted.{acceptedIn, contextAfter, noted}
+use Rattle.agreement.specs.Accepted.{acceptedIn, contextAfter, notedIn, noted}
 use Rattle.agreement.proofs.Invariant.{Invariant, agrees-with}
 use Rattle.agreement.proofs.Calls.{Keeps}
 use Rattle.agreement.proofs.Writes.{Answered, counted-keeps, write-keeps}
@@ -43,7 +43,7 @@ module _ {x : State} {b : Model} (h : Invariant x b) where
 
   -- any frame of either framing, with any reply buffer
   pub frame-keeps : (frame reply : List ℕ) (a : Arrival) → Keeps x b (Frame frame reply a)
-  unfolding numberOf after modelAfter noted frameOf answerOf left modelFrame
+  unfolding numberOf after modelAfter noted notedIn frameOf answerOf left modelFrame
   frame-keeps frame reply a = room (ltb (length reply) (roomIn (a .ascii))) refl
     where
       c : Carried
@@ -56,11 +56,11 @@ module _ {x : State} {b : Model} (h : Invariant x b) where
       q y = rw (h .matches .address-is)
 
       room : (l : Bool) → ltb (length reply) (roomIn (a .ascii)) ≡ l → Keeps x b (Frame frame reply a)
-      room true l = record { never-four = rw (numberOf, l); invariant = rw l h; entries = rw l }
+      room true l = record { never-refused = rw (numberOf, l); invariant = rw l h; entries = rw l }
       room false l =
           let k = plan-keeps a (headerOf (bodyOf c)) (bodyOf c) p (frame-facts (x .sonde .address) c) in
           record {
-            never-four = rw (numberOf, l, agrees-with h);
+            never-refused = rw (numberOf, l, agrees-with h);
             invariant = rw (l, agrees-with h, q) (k .invariant);
             entries = rw (l, q, context-same a) (k .entries);
           }

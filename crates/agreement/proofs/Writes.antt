@@ -77,7 +77,7 @@ unmeasured s x y o w =
 
 module _ {x : State} {b : Model} (h : Invariant x b) where
   -- what an update takes from the device is the same, whose counters aside the book has all values
-  context-same : (a : Arrival) → contextOf (deviceFor b a) ≡ contextOf (deviceIn (x .sonde) (x .volume) a)
+  pub context-same : (a : Arrival) → contextOf (deviceFor b a) ≡ contextOf (deviceIn (x .sonde) (x .volume) a)
   unfolding deviceOf
   context-same a = rw (holds-used (x .volume) (b .journal) (h .holds), h .holds .capacity-is, h .matches .technician-is)
 
@@ -131,7 +131,7 @@ module _ {x : State} {b : Model} (h : Invariant x b) where
 
     -- the volume holds the journal with entries more, and this comes to what is in force
     record Recorded (y : Setup) (es : List Entry) : Type 0 where
-      holds : Holds (appendsOf (x .volume) es) (extended (b .journal) es)
+      holds : Holds (appendsOf 27 (x .volume) es) (extended (b .journal) es)
       followed : (t : ℕ) → IsSensor t → latest t (ofSensor (b .journal .opening) t) (b .journal .entries ++ es) ≡ inForce y t
 
     -- so it is with what a write journals: nothing, or one entry
@@ -145,8 +145,8 @@ module _ {x : State} {b : Model} (h : Invariant x b) where
     recorded a {y} (entry e c r n u v f) =
         record {
           holds =
-              append-holds (x .volume) (b .journal) e (h .holds) (v (setup-valid (h .matches) s k)) (f (setup-fits (h .matches) s k))
-              (ltb-true (length (b .journal .entries)) (b .journal .capacity) (ap (λ (c : Context). c .spare) (context-same h a) ∙ r));
+              append-holds (x .volume) (b .journal) e (h .holds) (v (setup-valid (h .matches) s k))
+              (ltb-true (length (b .journal .entries)) (b .journal .capacity) (ap (λ (c : Context). c .spare) (context-same h a) ∙ r)) (f (setup-fits (h .matches) s k));
           followed = λ t l. latest-snoc t (ofSensor (b .journal .opening) t) (b .journal .entries) e ∙ rw (ap (eqb t) n) (go t l (eqb t s) refl);
         }
       where

@@ -1,7 +1,7 @@
 -- Demand 3: no list of calls parts the journal from the figures in force. One claim about the whole list, against the control book.
 -- Document 01, "Control book". Assumes nothing.
 use mathlib.Core.Path.{_≡_}
-use mathlib.Core.Bool.{true, not}
+use mathlib.Core.Bool.{true, not, _&&_}
 use mathlib.Core.List.{List, [], _++_}
 use Prim.Native.Nat.{ℕ, suc, _+_, _≤_, _<_}
 use lib.Dec.{eqb}
@@ -56,8 +56,8 @@ pub record Agree (x : State) (b : Model) : Type 0 where
 
 -- what holds of any list of calls after a fresh and a begin
 pub record Agreement (address : ℕ) (words : List ℕ) (calls : List Call) : Type 0 where
-  -- "Number 4 isn't tried; no call in the list gives it"
-  pub never-four : every (λ n. not (eqb n 4)) (numbers (start address words) calls) ≡ true
+  -- "Number 4 isn't tried; no call in the list gives it", and no salvage gives 8: after any cut it succeeds
+  pub never-refused : every (λ n. not (eqb n 4) && not (eqb n 8)) (numbers (start address words) calls) ≡ true
   -- after the list the sonde and its volume agree with the book
   pub agree : Agree (run (start address words) calls) (modelRun (modelStart address (length words)) calls)
   -- "The entries added are demand 3's accepted calibrations": all of them since the last begin, in order, and no others

@@ -118,3 +118,10 @@ modelPlanned b a (Writing o f v) = kept b o (writeIn b a o f v)
 -- of the reply buffer the length alone: number 3 refuses, by the framing. "Number 4 isn't tried". Frames of either framing are judged alike
 unfoldable pub modelFrame : Model → List ℕ → ℕ → Arrival → Model
 modelFrame b frame room a = cond (ltb room (roomIn (a .ascii))) b (modelPlanned b a (planFor (b .address) (carriedIn (a .ascii) frame)))
+
+-- ---- a cut
+
+-- document 02, wish 6: "the cut update is an accepted calibration exactly when the count is new". The count is the last of an append's 27 stores. Of
+-- all else that the frame writes, the power-up that follows leaves nothing
+unfoldable pub modelCut : Model → List ℕ → ℕ → Arrival → ℕ → Model
+modelCut b frame room a n = cond (ltb n 27) b (modelFrame b frame room a)

@@ -17,8 +17,10 @@ use Rattle.methods.specs.Methods.{methodOf, candidateOf, verdictOf, judgedOf}
 use Rattle.entries.specs.Entries.{validCalibration, methodAllowed, pointsFinite, samePoints, validEntry, replacedBy}
 use Rattle.journal.specs.Words.{capacityOf, entryWords, numberAt, floatAt, entryAt}
 use Rattle.journal.specs.Layout.{header}
-use Rattle.journal.specs.Stores.{beginWords, storesOf, appendOf}
+use Rattle.journal.specs.Stores.{beginWords, storesOf, spareFor, appendUpTo}
 use Rattle.journal.specs.Valid.{validHeader, openingAt, validOpenings, validEntryAt, chainOf, validLink, validChain, validChains, validEntries, valid}
+use Rattle.journal.specs.Journal.{on, firsts, lasts}
+use Rattle.recovery.specs.Salvage.{relinked, salvageOf}
 use Rattle.journal.specs.Replay.{replayOf, replays}
 use Rattle.parameters.specs.Parameters.{idOf, defaultUnits, unitsAllowed, levelAllowed}
 use Rattle.fields.specs.Fields.{ownerBit, owns, holds, exactly, fieldAt, wholeField, spanOf}
@@ -39,8 +41,8 @@ use Rattle.page.specs.Print.{printedOn, printOf}
 use Rattle.service.specs.Agrees.{openings, sameCalibrations, journalAgrees, agrees}
 use Rattle.service.specs.Calls.{beginOf, powerUpOf}
 use Rattle.service.specs.Reads.{deviceOf, registerAt, readingBody}
-use Rattle.service.specs.Frame.{sent, writeBody, writtenBy, sondeAfter, carriedOut, answerOf, left, frameOf}
-use Rattle.conformance.specs.Cases.{Cases, worked, told, begunWith, beginTold, asked, next, nextAt, nextAscii, frameTold, inMode, tenAtEight, failed, calibrated, onePoint, printTold, examplePage}
+use Rattle.service.specs.Frame.{sent, writeBody, writtenBy, sondeAfter, carriedOut, answerOf, left, frameOf, cutOf}
+use Rattle.conformance.specs.Cases.{Cases, worked, told, begunWith, beginTold, asked, next, nextAt, nextAscii, frameTold, inMode, tenAtEight, failed, calibrated, onePoint, printTold, examplePage, salvagedAt, salvageTold}
 
 pub cases : Cases
 unfolding crcBit crcBits crcByte crcFrom crcOf checksumOf framed bodyOf isGood overlay
@@ -48,16 +50,16 @@ unfolding crcBit crcBits crcByte crcFrom crcOf checksumOf framed bodyOf isGood o
     bytesOf readOf writeOneOf writeManyOf writeMaskOf requestOf maskedOf readBody writtenBody markedOf exceptionBody
     ofBits toBits sub mul div le near nearMinus finite floatOf highWord lowWord sameBits isPlusZero
     allFinite sameCoefficients sameCalibration defaultsOf inLimits methodOf candidateOf verdictOf judgedOf
-    methodAllowed pointsFinite samePoints validEntry replacedBy capacityOf entryWords numberAt floatAt entryAt validCalibration header beginWords storesOf appendOf
+    methodAllowed pointsFinite samePoints validEntry replacedBy capacityOf entryWords numberAt floatAt entryAt validCalibration header beginWords storesOf spareFor appendUpTo
     validHeader openingAt validOpenings validEntryAt chainOf validLink validChain validChains validEntries valid replayOf replays
     idOf defaultUnits unitsAllowed levelAllowed ownerBit owns holds exactly fieldAt wholeField spanOf
     newProcedure freshParameter freshParameters freshSetup freshSensor unitsValid levelValid validParameter validParameters validProcedure validSetup validSensor restarted calibratedAt sensorWithSetup
     modeOf shownCoefficients coefficientRegister headRegister sensorRegister deviceRegister registerOf updated commanded
     methodWritten pointAt withFloat floatWritten fieldWritten writeOf deviceWritten writeTo targetOf readPlan planOf
     freshCounters incremented freshSonde poweredSonde replayed sensorAt setupAt withSensor withSetup withTechnician countedBy addressValid validSonde
-    openings sameCalibrations journalAgrees agrees beginOf powerUpOf deviceOf registerAt readingBody sent writeBody writtenBy sondeAfter carriedOut answerOf replyOf left frameOf
+    openings sameCalibrations journalAgrees agrees beginOf powerUpOf deviceOf registerAt readingBody sent writeBody writtenBy sondeAfter carriedOut answerOf replyOf left frameOf cutOf on firsts lasts relinked salvageOf
     journalOf last lastOrBlank cells number hex behind spaced characters columnsOf lineOf linesOf pageOf printedOn printOf
-    worked told begunWith beginTold asked next nextAt nextAscii frameTold inMode tenAtEight failed calibrated onePoint printTold examplePage
+    worked told begunWith beginTold asked next nextAt nextAscii frameTold inMode tenAtEight failed calibrated onePoint printTold examplePage salvagedAt salvageTold
 cases =
     record {
       crc-of-digits = refl;
@@ -99,4 +101,9 @@ cases =
       page-short = refl;
       page-empty = refl;
       page-unsound = refl;
+      cut-at-words = refl;
+      cut-at-link = refl;
+      cut-at-last = refl;
+      cut-at-count = refl;
+      cut-beyond = refl;
     }

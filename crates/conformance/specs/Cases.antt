@@ -4,7 +4,7 @@ use mathlib.Core.Path.{_≡_}
 use mathlib.Core.Bool.{true, false}
 use mathlib.Core.List.{List, [], _∷_, _++_}
 use Prim.Native.Nat.{ℕ}
-use lib.ListN.{getD, take, replicate}
+use lib.ListN.{getD, take, drop, replicate}
 use lib.Ieee.{Float, binary32, ofBits, toBits}
 use Rattle.rtu.specs.Crc.{crcOf}
 use Rattle.floats.specs.Floats.{near, plusZero}
@@ -21,7 +21,8 @@ use Rattle.state.specs.declared.Sonde.{Sonde}
 use Rattle.columns.specs.Text.{characters}
 use Rattle.page.specs.Print.{Printed, printOf}
 use Rattle.service.specs.Calls.{Begun, beginOf, powerUpOf}
-use Rattle.service.specs.Frame.{Outcome, arrival, frameOf}
+use Rattle.recovery.specs.Salvage.{Salvaged, salvageOf}
+use Rattle.service.specs.Frame.{Outcome, arrival, frameOf, cutOf}
 
 -- the bits of coefficients
 abbrev pub bits : Coefficients → List ℕ
@@ -130,6 +131,14 @@ failed = next tenAtEight oxygenUpdate
 -- the sonde in mode, with one entry spare
 unfoldable pub inMode : Outcome
 inMode = asked (freshSonde 1) (begunWith 88 .volume) modeOn
+
+-- the salvage after an update of sensor 1 that was cut behind so many stores
+unfoldable pub salvagedAt : ℕ → Salvaged
+salvagedAt n = salvageOf (cutOf (inMode .sonde) update (replicate 256 0) (inMode .volume) (arrival 7 false) n)
+
+-- what a salvage tells: its number, the words that it changed, then words 2..8: the entries in use, each chain's first, sensor 1's last
+unfoldable pub salvageTold : Salvaged → List ℕ
+salvageTold r = r .number ∷ r .changed ∷ take 7 (drop 2 (r .words))
 
 -- to register 9, the technician's number: 3; 7; 7 at address 0; 0x1234, and a mask over it with A 0xFF00 and B 0x56; the read of it
 abbrev pub technicianThree : List ℕ
@@ -252,3 +261,11 @@ pub record Cases : Type 0 where
   pub page-short : printTold (printOf (onePoint .volume) (replicate 264 7)) ≡ 7 ∷ 0 ∷ replicate 264 7
   pub page-empty : printTold (printOf (onePoint .volume) []) ≡ 7 ∷ 0 ∷ []
   pub page-unsound : printTold (printOf (replicate 88 0) []) ≡ 4 ∷ 0 ∷ []
+  -- document 02, wish 6: "salvage gives the volume from before it if the count is old", here behind the entry's words, the link and the last,
+  pub cut-at-words : salvageTold (salvagedAt 24) ≡ 0 ∷ 0 ∷ 0 ∷ 0 ∷ 0 ∷ 0 ∷ 0 ∷ 0 ∷ 0 ∷ []
+  pub cut-at-link : salvageTold (salvagedAt 25) ≡ 0 ∷ 1 ∷ 0 ∷ 0 ∷ 0 ∷ 0 ∷ 0 ∷ 0 ∷ 0 ∷ []
+  pub cut-at-last : salvageTold (salvagedAt 26) ≡ 0 ∷ 2 ∷ 0 ∷ 0 ∷ 0 ∷ 0 ∷ 0 ∷ 0 ∷ 0 ∷ []
+  -- "and from after it if the count is new"
+  pub cut-at-count : salvageTold (salvagedAt 27) ≡ 0 ∷ 0 ∷ 1 ∷ 0 ∷ 1 ∷ 0 ∷ 0 ∷ 0 ∷ 1 ∷ []
+  -- "8, .. a fault that no choice of those words makes sound": 88 words of 0
+  pub cut-beyond : salvageTold (salvageOf (replicate 88 0)) ≡ 8 ∷ 0 ∷ 0 ∷ 0 ∷ 0 ∷ 0 ∷ 0 ∷ 0 ∷ 0 ∷ []
