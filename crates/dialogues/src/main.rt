@@ -6,9 +6,9 @@ mod scene; // the sonde of a dialogue
 use libc::STDIN_FILENO;
 
 fn main() {
-    let mut space = [0u8; 163840];
+    let mut space = [0u8; 196608];
     let n = io::read_full(STDIN_FILENO, &mut space);
-    if n == 163840 {
+    if n == 196608 {
         text::print_cut_off();
         return;
     }

@@ -1,15 +1,15 @@
 -- It is safe: the bits of infinity are no NaN's. Assumes nothing.
 use lib.Ieee.{nanBits}
 use borrow.Author.Needs.{needs}
-use Rattle.dialogues.proofs.scene.raw.Statement.{statement}
-use Rattle.dialogues.proofs.scene.raw.Tie as tie
+use Rattle.dialogues.proofs.scene.float.Statement.{statement}
+use Rattle.dialogues.proofs.scene.float.Tie as tie
 
 float-from-bits-result : tie.Need-float-from-bits-result
 unfolding nanBits
 float-from-bits-result c = tt
 
-pub raw-spec : {M : Type 1} → statement M
-raw-spec =
+pub float-spec : {M : Type 1} → statement M
+float-spec =
     tie.close
     (tie.spec
     (λ c κs. search needs)
