@@ -2,7 +2,7 @@
 //! library, so that a difference between the two (`src/bin/compare`) shows a mistake in one of them. It is also the baseline of speed.
 //!
 //! The modules follow the paper: words and floats, checksum, the two framings, calibration, the sonde's state, the register map, readings,
-//! the volume with its journal, its page, requests and replies, the calls. `book` is the control book of demand 3.
+//! the volume with its journal, its salvage, its page, requests and replies, the calls. `book` is the control book of demand 3.
 
 #![forbid(unsafe_code)]
 
@@ -10,6 +10,7 @@ pub mod ascii;
 pub mod book;
 pub mod calibration;
 pub mod calls;
+pub mod chains;
 pub mod crc;
 pub mod floats;
 pub mod frames;
@@ -21,7 +22,8 @@ pub mod rtu;
 pub mod state;
 pub mod volume;
 
-pub use calls::{audit, begin, frame, fresh, measure, power_up, print};
+pub use calls::{audit, begin, cut, frame, fresh, measure, power_up, print, salvage};
 pub use crc::{crc, crc_round};
 pub use framing::Framing;
 pub use state::Sonde;
+pub use volume::append;

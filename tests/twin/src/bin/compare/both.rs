@@ -4,6 +4,7 @@ use crate::before::History;
 use crate::breach;
 use crate::calls::{hex, Answer, Call, Request};
 use crate::convert::{difference, from_library, to_library};
+use crate::cuts;
 use crate::library;
 use crate::random::Random;
 use sonde::ffi;
@@ -99,7 +100,7 @@ pub struct Comparison {
 }
 
 /// The answer, if both are the same.
-fn agree(twin: Answer, library: Answer) -> Result<Answer, String> {
+pub fn agree(twin: Answer, library: Answer) -> Result<Answer, String> {
     if twin == library {
         return Ok(twin);
     }
@@ -144,7 +145,7 @@ fn differ_sonde(what: &str, twin: &Sonde, library: &ffi::Sonde) -> Result<(), St
     }
 }
 
-fn differ_volume(twin: &[u16], library: &[u16]) -> Result<(), String> {
+pub fn differ_volume(twin: &[u16], library: &[u16]) -> Result<(), String> {
     if twin == library {
         return Ok(());
     }
@@ -173,13 +174,19 @@ impl Comparison {
 
     /// Runs the call on both and compares: answer, whole reply buffer or page, whole volume, every field of the sonde, every register.
     pub fn run(&mut self, both: &mut Both, call: &Call, random: &mut Random) -> Result<Answer, String> {
+        let answer = self.run_unread(both, call, random)?;
+        self.read_back(both, random)?;
+        Ok(answer)
+    }
+
+    /// The same without the registers.
+    pub fn run_unread(&mut self, both: &mut Both, call: &Call, random: &mut Random) -> Result<Answer, String> {
         let answer = self.execute(both, call, random)?;
         differ_sonde("the sonde", &both.twin, &both.library)?;
         differ_volume(&both.twin_volume, &both.library_volume)?;
         if let (Call::Begin { words }, 0) = (call, answer.number) {
             both.lent = *words;
         }
-        self.read_back(both, random)?;
         Ok(answer)
     }
 
@@ -218,6 +225,9 @@ impl Comparison {
             }
             Call::Frame(ref request) => self.frame(both, request, random),
             Call::Print { words, page } => self.print(both, words, page, random),
+            Call::Append { words, ref entry, stores } => cuts::append(both, words, entry, stores),
+            Call::Salvage { words } => cuts::salvage(both, words, random),
+            Call::Cut(ref cut) => cuts::cut(both, cut),
         }
     }
 

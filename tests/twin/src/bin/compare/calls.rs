@@ -1,6 +1,7 @@
 //! A call with its arguments, as both implementations get it.
 
 use crate::breach::Breach;
+use sonde::ffi;
 use std::fmt;
 use twin::Framing;
 
@@ -13,6 +14,9 @@ pub enum Kind {
     Frame,
     Audit,
     Print,
+    Append,
+    Salvage,
+    Cut,
 }
 
 /// `words` is how much of the volume is lent, from its beginning.
@@ -43,6 +47,34 @@ pub enum Call {
         words: usize,
         page: usize,
     },
+    /// The first so many stores.
+    Append {
+        words: usize,
+        entry: ffi::Entry,
+        stores: usize,
+    },
+    Salvage {
+        words: usize,
+    },
+    /// The salvage and the power-up that follow it are calls of their own.
+    Cut(Cut),
+}
+
+/// A frame in which the supply fails after so many stores of its append.
+#[derive(Clone)]
+pub struct Cut {
+    pub request: Request,
+    pub stores: usize,
+    /// Of the power-up after it, which isn't refused.
+    pub address: u8,
+}
+
+impl Cut {
+    /// The salvage and the power-up, which follow at once.
+    pub fn following(&self) -> [Call; 2] {
+        let (address, words) = (self.address, self.request.words);
+        [Call::Salvage { words }, Call::PowerUp { address, words }]
+    }
 }
 
 /// A frame with the framing that the host names, and the bytes of the reply buffer.
@@ -67,6 +99,9 @@ impl Call {
             Call::Frame(_) => Kind::Frame,
             Call::Audit { .. } => Kind::Audit,
             Call::Print { .. } => Kind::Print,
+            Call::Append { .. } => Kind::Append,
+            Call::Salvage { .. } => Kind::Salvage,
+            Call::Cut(_) => Kind::Cut,
         }
     }
 }
@@ -92,6 +127,14 @@ impl fmt::Display for Call {
             Call::Frame(request) => write!(f, "{request}"),
             Call::Audit { words } => write!(f, "audit({words} words)"),
             Call::Print { words, page } => write!(f, "print({words} words, page {page})"),
+            Call::Append { words, entry, stores } => write!(f, "append({words} words, {}, {stores} stores)", shown(entry)),
+            Call::Salvage { words } => write!(f, "salvage({words} words)"),
+            Call::Cut(Cut { request, stores, address }) => {
+                write!(
+                    f,
+                    "{request}, cut after {stores} stores of its append (then power-up with address {address})"
+                )
+            }
         }
     }
 }
@@ -119,13 +162,34 @@ impl fmt::Display for Request {
     }
 }
 
+/// An entry, its floats by their bits.
+fn shown(entry: &ffi::Entry) -> String {
+    let ffi::Entry {
+        sensor,
+        method,
+        technician,
+        calibration,
+        points,
+    } = *entry;
+    let ffi::Calibration {
+        coefficient1,
+        coefficient2,
+        coefficient3,
+        time,
+    } = calibration;
+    let bits = |value: f32| format!("{:#010X}", value.to_bits());
+    let coefficients = [coefficient1, coefficient2, coefficient3].map(bits).join(" ");
+    let points = [points.x1, points.y1, points.x2, points.y2].map(bits).join(" ");
+    format!("sensor {sensor}, method {method}, technician {technician}, time {time}, coefficients {coefficients}, points {points}")
+}
+
 pub fn hex(bytes: &[u8]) -> String {
     let digits: Vec<String> = bytes.iter().map(|byte| format!("{byte:02X}")).collect();
     format!("[{}]", digits.join(" "))
 }
 
-/// What a call gives beside the sonde, the reply, the page and the volume: `length` is a reply's or a page's length, or the entries in use of
-/// an audit.
+/// What a call gives beside the sonde, the reply, the page and the volume: `length` is a reply's or a page's length, the entries in use of an
+/// audit, or the words that a salvage changed.
 #[derive(Clone, Copy, Debug, PartialEq, Eq)]
 pub struct Answer {
     pub number: u8,

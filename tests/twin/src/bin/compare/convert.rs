@@ -1,8 +1,10 @@
-//! The library's sonde and the twin's, turned into one another, and compared field by field, floats by their bits.
+//! The library's sonde and the twin's, turned into one another, and compared field by field, floats by their bits. Likewise an entry.
 
 use sonde::ffi;
 use twin::calibration::Calibration;
+use twin::floats::{float, join};
 use twin::state::{Counters, Sample, SensorSettings, Settings, Sonde};
+use twin::volume::Entry;
 
 pub fn to_library(sonde: &Sonde) -> ffi::Sonde {
     let Counters { good, bad, exceptions } = sonde.counters;
@@ -112,6 +114,49 @@ fn settings(setup: &ffi::Setup) -> SensorSettings {
     }
 }
 
+/// The twin counts sensors from 0: sensor 0 becomes one past all.
+pub fn entry_from_library(entry: &ffi::Entry) -> Entry {
+    let ffi::Calibration {
+        coefficient1,
+        coefficient2,
+        coefficient3,
+        time,
+    } = entry.calibration;
+    let ffi::Points { x1, y1, x2, y2 } = entry.points;
+    Entry {
+        sensor: usize::from(entry.sensor).wrapping_sub(1),
+        method: entry.method,
+        technician: entry.technician,
+        calibration: Calibration {
+            coefficients: [coefficient1, coefficient2, coefficient3],
+            time,
+        },
+        points: [x1, y1, x2, y2],
+    }
+}
+
+/// The entry that these words are.
+pub fn entry_of_words(words: &[u16]) -> ffi::Entry {
+    let float = |at: usize| float(&words[at..]);
+    ffi::Entry {
+        sensor: words[1],
+        method: words[2],
+        technician: words[3],
+        calibration: ffi::Calibration {
+            coefficient1: float(6),
+            coefficient2: float(8),
+            coefficient3: float(10),
+            time: join(words[4], words[5]),
+        },
+        points: ffi::Points {
+            x1: float(12),
+            y1: float(14),
+            x2: float(16),
+            y2: float(18),
+        },
+    }
+}
+
 /// Fields of a sensor's settings.
 const SETTINGS: usize = 21;
 const SETTINGS_NAMES: [&str; SETTINGS] = [
@@ -188,4 +233,21 @@ pub fn difference(left: &Sonde, right: &Sonde) -> Option<String> {
         }
     }
     settings_difference(&left.settings, &right.settings)
+}
+
+#[cfg(test)]
+mod tests {
+    use super::*;
+
+    #[test]
+    fn entries_and_their_words() {
+        let mut words: [u16; 24] = std::array::from_fn(|word| 0x3F00 + word as u16);
+        words[0] = 0;
+        words[1] = 3;
+        words[20..].fill(0);
+        let entry = entry_of_words(&words);
+        assert_eq!(entry_from_library(&entry).words(), words);
+        let none = [0, 5, 65535].map(|sensor| entry_from_library(&ffi::Entry { sensor, ..entry }).sensor);
+        assert!(none.into_iter().all(|sensor| sensor >= 4));
+    }
 }

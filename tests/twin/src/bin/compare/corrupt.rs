@@ -47,6 +47,7 @@ pub enum Corruption {
     FreeWord,
     SwappedLinks,
     ForeignLink,
+    ChainWords,
     NotFromPoints,
     NegativeZero,
     AnyWords,
@@ -81,7 +82,7 @@ pub const OF_SONDE: [Corruption; 17] = [
 ];
 
 /// Those that change the volume, or how much of it is lent.
-pub const OF_VOLUME: [Corruption; 28] = [
+pub const OF_VOLUME: [Corruption; 29] = [
     Version,
     CapacityWord,
     InUse,
@@ -102,6 +103,7 @@ pub const OF_VOLUME: [Corruption; 28] = [
     FreeWord,
     SwappedLinks,
     ForeignLink,
+    ChainWords,
     NotFromPoints,
     NegativeZero,
     AnyWords,
@@ -138,6 +140,20 @@ impl Corruption {
             _ if self.harmless() || self.disagreement() => Some(false),
             _ if self.uncertain() => None,
             _ => Some(true),
+        }
+    }
+
+    /// Whether it changes chain words alone, to others.
+    pub fn of_chains(self) -> bool {
+        matches!(self, First | Last | EntryNext | SwappedLinks | ForeignLink | ChainWords)
+    }
+
+    /// Whether a volume so changed is beyond salvage; `None` where it can be either. An entry may go to another sensor's chain.
+    pub fn beyond_salvage(self) -> Option<bool> {
+        match self {
+            EntrySensor => None,
+            _ if self.of_chains() => Some(false),
+            _ => self.invalid(),
         }
     }
 }
@@ -248,6 +264,7 @@ fn corrupt_words(volume: &mut [u16], corruption: Corruption, random: &mut Random
         OpeningCoefficient => change(&mut volume[random.between(16, 39)], random),
         OpeningTime => change(&mut volume[random.between(40, 47)], random),
         NegativeZero if random.chance(20) => volume[16 + 6 * random.pick(&[0, 1, 3]) + 4] ^= 0x8000,
+        ChainWords => scatter_links(volume, in_use, random),
         _ if in_use == 0 => return false,
         SwappedLinks => return swap_links(volume, in_use, random),
         ForeignLink => return link_through_another(volume, in_use, random),
@@ -301,18 +318,37 @@ fn swap_links(volume: &mut [u16], in_use: usize, random: &mut Random) -> bool {
     volume[left] != volume[right]
 }
 
+/// Other words in the header's chains, and any in those of the entries.
+fn scatter_links(volume: &mut [u16], in_use: usize, random: &mut Random) {
+    let wild = random.chance(50);
+    let nexts = (0..in_use).map(|entry| HEADER_WORDS + ENTRY_WORDS * entry);
+    for link in (4..12).chain(nexts) {
+        relink(&mut volume[link], in_use, random);
+        if wild && link >= HEADER_WORDS {
+            volume[link] = random.word();
+        }
+    }
+}
+
+/// Makes a last one that isn't in use: the next entry, a free one, or past the volume.
+pub fn stray_last(volume: &mut [u16], random: &mut Random) {
+    let (used, any) = (volume[2], random.word());
+    volume[8 + random.below(4)] = random.pick(&[used + 1, used + 1, used + 2, used + 3, 1001, 65535, any]);
+}
+
 /// Leads the chain of an entry's sensor through an entry of another: a -> b becomes a -> c -> b.
 fn link_through_another(volume: &mut [u16], in_use: usize, random: &mut Random) -> bool {
     let at = |index: usize| HEADER_WORDS + ENTRY_WORDS * (index - 1);
-    let (from, through) = (random.between(1, in_use), random.between(1, in_use));
-    let foreign = through > from && volume[at(through) + 1] != volume[at(from) + 1];
-    if foreign {
-        if volume[at(from)] > through as u16 {
-            volume[at(through)] = volume[at(from)];
-        }
-        volume[at(from)] = through as u16;
+    let pairs = (0..4).map(|_| (random.between(1, in_use), random.between(1, in_use)));
+    let foreign = |&(from, through): &(usize, usize)| through > from && volume[at(through) + 1] != volume[at(from) + 1];
+    let Some((from, through)) = pairs.filter(foreign).last() else {
+        return false;
+    };
+    if volume[at(from)] > through as u16 {
+        volume[at(through)] = volume[at(from)];
     }
-    foreign
+    volume[at(from)] = through as u16;
+    true
 }
 
 fn corrupt_entry(entry: &mut [u16], in_use: usize, corruption: Corruption, random: &mut Random) -> bool {

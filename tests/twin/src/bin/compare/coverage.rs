@@ -6,6 +6,7 @@ use crate::breach::{Breach, OF_ASCII};
 use crate::calls::{Answer, Call, Kind, Request};
 use crate::corrupt::{Corruption, OF_SONDE, OF_VOLUME};
 use crate::generate::{page_due, DEVICE_END, LONGEST_READ, REPLIES};
+use crate::interrupted::{self, Appended, Interrupted};
 use crate::printed::{self, Fit, Printed, FITS};
 use std::collections::BTreeMap;
 use std::num::FpCategory;
@@ -220,6 +221,12 @@ pub enum Item {
         number: u8,
     },
     Printed(Printed),
+    Interrupted(Interrupted),
+    Appended(Appended),
+    /// The words that a salvage changed, up to 3.
+    Salvaged {
+        words: u32,
+    },
     Corrupted {
         corruption: Corruption,
         call: Kind,
@@ -275,7 +282,10 @@ impl Coverage {
                 self.note_if(before.with_technician(), Item::AuditWithTechnician);
             }
             Call::Begin { .. } => self.note_begin(before),
-            Call::Fresh { .. } | Call::Measure { .. } | Call::Print { .. } => {}
+            Call::Salvage { .. } => self.note(Item::Salvaged {
+                words: answer.length.min(3),
+            }),
+            Call::Fresh { .. } | Call::Measure { .. } | Call::Print { .. } | Call::Append { .. } | Call::Cut(_) => {}
         }
     }
 
@@ -596,6 +606,21 @@ impl Coverage {
         format!("{} pages printed and {} refused", of(0), of(4) + of(7))
     }
 
+    /// What was cut, accepted calibrations of each kind after each number of stores; appends to any words, and salvages.
+    pub fn cuts(&self) -> String {
+        let count = |item: Item| self.0.get(&item).copied().unwrap_or(0);
+        let of_each: Vec<u64> = interrupted::required_updates()
+            .into_iter()
+            .map(|cut| count(Item::Interrupted(cut)))
+            .collect();
+        let (kinds, least, cuts) = (of_each.len(), of_each.iter().min().unwrap_or(&0), of_each.iter().sum::<u64>());
+        let [appends, salvages, beyond] =
+            [(Kind::Append, 0), (Kind::Salvage, 0), (Kind::Salvage, 8)].map(|(call, number)| count(Item::Number { call, number }));
+        format!(
+            "{cuts} cuts of calibrations (at least {least} of each of {kinds} kinds), {appends} appends to any words, {salvages} salvages and {beyond} refused"
+        )
+    }
+
     /// What was met in ASCII: frames, calibrations and bad frames of each kind.
     pub fn ascii(&self) -> String {
         use Framing::Ascii;
@@ -686,6 +711,9 @@ fn required() -> Vec<Item> {
     items.extend(required_technicians());
     items.extend(required_readings());
     items.extend(required_prints());
+    items.extend(interrupted::required_cuts().into_iter().map(Item::Interrupted));
+    items.extend(interrupted::required_appends().into_iter().map(Item::Appended));
+    items.extend((0..=3).map(|words| Item::Salvaged { words }));
     items.extend(required_corruptions());
     items.extend(required_faults());
     items
@@ -715,6 +743,7 @@ fn required_corruptions() -> Vec<Item> {
             number,
         });
     }
+    items.extend(required_salvages());
     for corruption in [Corruption::WordLonger, Corruption::WordShorter] {
         items.push(Item::Corrupted {
             corruption,
@@ -723,6 +752,23 @@ fn required_corruptions() -> Vec<Item> {
         });
     }
     items
+}
+
+/// A salvage of each corrupted volume, with either number where it can have both and isn't seldom valid.
+fn required_salvages() -> impl Iterator<Item = Item> {
+    use Corruption::{EntryLonger, EntryMethod, EntryPoint, EntryShorter};
+    let each = OF_VOLUME.into_iter().flat_map(|corruption| [(corruption, 0), (corruption, 8)]);
+    each.filter(|(corruption, number)| corruption.beyond_salvage().is_none_or(|beyond| beyond == (*number == 8)))
+        .filter(|pair| {
+            ![EntryLonger, EntryMethod, EntryPoint, EntryShorter]
+                .map(|seldom| (seldom, 0))
+                .contains(pair)
+        })
+        .map(|(corruption, number)| Item::Corrupted {
+            corruption,
+            call: Kind::Salvage,
+            number,
+        })
 }
 
 /// Each corruption of a volume with a fault, without one, or both.
@@ -735,7 +781,7 @@ fn required_faults() -> impl Iterator<Item = Item> {
 }
 
 fn required_answers() -> Vec<Item> {
-    let numbers: [(Kind, &[u8]); 7] = [
+    let numbers: [(Kind, &[u8]); 10] = [
         (Kind::Fresh, &[0, 1]),
         (Kind::Begin, &[0, 2, 4]),
         (Kind::PowerUp, &[0, 1, 4]),
@@ -743,6 +789,9 @@ fn required_answers() -> Vec<Item> {
         (Kind::Frame, &[0, 3, 4]),
         (Kind::Audit, &[0, 4]),
         (Kind::Print, &[0, 4, 7]),
+        (Kind::Append, &[0]),
+        (Kind::Salvage, &[0, 8]),
+        (Kind::Cut, &[0, 3]),
     ];
     let mut items: Vec<Item> = numbers
         .iter()

@@ -2,17 +2,19 @@
 
 use crate::both::{Both, PAGE_MOST};
 use crate::breach::{self, broken, Breach, OF_ASCII};
-use crate::calls::{Call, Request};
+use crate::calls::{Call, Cut, Request};
+use crate::interrupted::appends;
 use crate::random::Random;
 use crate::values;
+use sonde::ffi;
 use std::collections::VecDeque;
-use twin::calibration::{DIRECT, LEVEL, LIMITS, ONE_POINT, TWO_POINTS};
+use twin::calibration::{candidate, used_points, within_limits, DIRECT, LEVEL, LIMITS, ONE_POINT, TWO_POINTS};
 use twin::floats::split;
 use twin::frames::{MASK, READ, WRITE_MANY, WRITE_ONE};
 use twin::map::{locate, Access, Field, Owner, Place, ENTER, LEAVE, LEVEL_IDS, PARAMETERS, UPDATE};
 use twin::page::{page_bytes, LINE_BYTES};
 use twin::state::{valid_address, Sonde};
-use twin::volume::{capacity, ENTRY_WORDS, HEADER_WORDS};
+use twin::volume::{capacity, APPEND_STORES, ENTRY_WORDS, HEADER_WORDS};
 use twin::Framing;
 
 /// Reply buffers at and beside the least lengths of both framings.
@@ -89,8 +91,96 @@ impl Generator {
                 let words = self.words(both);
                 self.print(both, words)
             }
-            _ => self.frame(both),
+            250..=254 => Call::Salvage { words: self.words(both) },
+            _ => {
+                let request = self.request(both);
+                self.perhaps_cut(both, request)
+            }
         }
+    }
+
+    /// The frame, or a cut of it: often of one that appends, seldom of others.
+    fn perhaps_cut(&mut self, both: &Both, request: Request) -> Call {
+        let percent = if appends(both, &request).is_some() { 12 } else { 1 };
+        if !self.random.chance(percent) {
+            return Call::Frame(request);
+        }
+        if self.random.chance(80) {
+            self.script.clear();
+        }
+        let stores = self.stores();
+        Call::Cut(self.cut(request, stores))
+    }
+
+    pub fn cut(&mut self, request: Request, stores: usize) -> Cut {
+        let address = match self.address() {
+            address if valid_address(address) => address,
+            _ => 1,
+        };
+        Cut { request, stores, address }
+    }
+
+    /// How many stores of an append are made.
+    fn stores(&mut self) -> usize {
+        let within = self.random.between(0, APPEND_STORES);
+        let more = self.random.pick(&[APPEND_STORES + 1, 100, 1 << 16, 1 << 32, usize::MAX]);
+        if self.random.chance(90) {
+            within
+        } else {
+            more
+        }
+    }
+
+    /// An append of any entry to a volume of any words.
+    pub fn append(&mut self, both: &Both) -> Call {
+        let (lent, room) = (both.lent, both.twin_volume.len());
+        let words = match self.random.below(10) {
+            0 => self.random.between(0, room),
+            1 => self.random.between(0, lent),
+            _ => lent,
+        };
+        let entry = if self.random.chance(60) {
+            self.valid_entry()
+        } else {
+            self.any_entry()
+        };
+        let stores = self.stores();
+        Call::Append { words, entry, stores }
+    }
+
+    /// An entry that any journal with room may hold.
+    fn valid_entry(&mut self) -> ffi::Entry {
+        let sensor = self.random.below(4);
+        let trial = [0, 1, 2].map(|coefficient| values::within(&mut self.random, sensor, coefficient));
+        let method = if sensor == LEVEL { DIRECT } else { self.random.below(3) as u16 };
+        let points = match method {
+            ONE_POINT => self.one_point(sensor),
+            _ => self.two_points(sensor),
+        };
+        let coefficients = candidate(method, &trial, &points);
+        let (method, coefficients) = match within_limits(sensor, &coefficients) {
+            true => (method, coefficients),
+            false => (DIRECT, trial),
+        };
+        let (technician, time) = (self.random.word(), self.random.long());
+        entry(
+            sensor as u16 + 1,
+            method,
+            technician,
+            coefficients,
+            time,
+            used_points(method, &points),
+        )
+    }
+
+    fn any_entry(&mut self) -> ffi::Entry {
+        let random = &mut self.random;
+        let sensor = random.pick(&[0, 1, 2, 3, 4, 1, 2, 3, 4, 5, 6, 65535]);
+        let any = random.word();
+        let method = random.pick(&[0, 1, 2, 3, any]);
+        let coefficients = [(); 3].map(|()| values::any(random));
+        let points = [(); 4].map(|()| values::any(random));
+        entry(sensor, method, random.word(), coefficients, random.long(), points)
     }
 
     /// Frames, audits and prints wait for the begin.
@@ -190,8 +280,12 @@ impl Generator {
         }
     }
 
-    /// A frame in either framing with a fit reply buffer, seldom a short one.
     pub fn frame(&mut self, both: &Both) -> Call {
+        Call::Frame(self.request(both))
+    }
+
+    /// A frame in either framing with a fit reply buffer, seldom a short one.
+    fn request(&mut self, both: &Both) -> Request {
         let mut body = vec![self.frame_address(both.twin.address)];
         body.extend(self.body());
         let framing = self.framing();
@@ -200,14 +294,14 @@ impl Generator {
             Framing::Ascii => self.seal_ascii(&body),
         };
         let (any, small) = (self.random.long(), self.random.long() >> self.random.below(32));
-        Call::Frame(Request {
+        Request {
             framing,
             bytes,
             breach,
             reply: self.reply(framing),
             words: self.words(both),
             clock: self.random.pick(&[0, 1, u32::MAX, 0xFFFF, 0x1_0000, any, any, small]),
-        })
+        }
     }
 
     /// A frame that writes a register of one word, in either framing.
@@ -523,7 +617,7 @@ impl Generator {
             self.plan_technician(30);
             self.plan_command(base, UPDATE);
         }
-        if sensor != LEVEL && self.random.chance(20) {
+        if sensor != LEVEL && self.random.chance(40) {
             self.plan_correction(sensor, base);
         }
         if self.random.chance(30) {
@@ -626,6 +720,23 @@ impl Generator {
             ]),
             _ => [x1, offset + slope * x1, x2, offset + slope * x2],
         }
+    }
+}
+
+fn entry(sensor: u16, method: u16, technician: u16, coefficients: [f32; 3], time: u32, points: [f32; 4]) -> ffi::Entry {
+    let [coefficient1, coefficient2, coefficient3] = coefficients;
+    let [x1, y1, x2, y2] = points;
+    ffi::Entry {
+        sensor,
+        method,
+        technician,
+        calibration: ffi::Calibration {
+            coefficient1,
+            coefficient2,
+            coefficient3,
+            time,
+        },
+        points: ffi::Points { x1, y1, x2, y2 },
     }
 }
 

@@ -1,7 +1,7 @@
 //! The proved library's calls, behind slices. Its interface asks for pointers that are valid for their lengths, aligned, not null and
 //! don't overlap: those of slices are.
 
-use sonde::ffi::{self, Audit, Frame, Made, Print, Sonde};
+use sonde::ffi::{self, Audit, Entry, Frame, Made, Print, Salvage, Sonde};
 use twin::Framing;
 
 pub fn fresh(address: u8) -> Made {
@@ -43,6 +43,14 @@ pub fn audit(sonde: Sonde, volume: &[u16]) -> Audit {
 
 pub fn print(volume: &[u16], page: &mut [u8]) -> Print {
     unsafe { ffi::sonde_print(volume.as_ptr(), volume.len(), page.as_mut_ptr(), page.len()) }
+}
+
+pub fn append(volume: &mut [u16], entry: Entry, stores: usize) {
+    unsafe { ffi::sonde_append(volume.as_mut_ptr(), volume.len(), entry, stores) }
+}
+
+pub fn salvage(volume: &mut [u16]) -> Salvage {
+    unsafe { ffi::sonde_salvage(volume.as_mut_ptr(), volume.len()) }
 }
 
 pub fn crc_round(sum: u16, word: u16) -> u16 {

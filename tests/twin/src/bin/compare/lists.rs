@@ -2,25 +2,32 @@
 
 use crate::before::Before;
 use crate::both::{Both, Comparison};
-use crate::calls::{Answer, Call, Kind, Request};
+use crate::calls::{Answer, Call, Cut, Kind, Request};
 use crate::convert::settings_difference;
-use crate::corrupt::{corrupt_sonde, corrupt_volume, Corruption, OF_SONDE, OF_VOLUME};
+use crate::corrupt::{corrupt_sonde, corrupt_volume, stray_last, Corruption, OF_SONDE, OF_VOLUME};
 use crate::coverage::{Coverage, Item};
+use crate::cuts;
 use crate::generate::{makes_sonde, Generator, TECHNICIAN};
+use crate::interrupted::{self, appends, Appended, MORE_STORES};
 use crate::library;
 use crate::random::Random;
 use serve::fault;
 use std::collections::VecDeque;
 use twin::book::Book;
+use twin::calibration::DIRECT;
 use twin::map::{ENTER, UPDATE};
 use twin::page::page_bytes;
 use twin::state::{SensorSettings, Sonde};
-use twin::volume::{replay, CAPACITY_MOST, ENTRY_WORDS, HEADER_WORDS};
+use twin::volume::{replay, APPEND_STORES, CAPACITY_MOST, ENTRY_WORDS, HEADER_WORDS};
 
 /// Words of a volume of full capacity.
 const MOST_WORDS: usize = HEADER_WORDS + ENTRY_WORDS * CAPACITY_MOST;
+/// Entries in use where one more makes it full.
+const LAST_PLACE: usize = CAPACITY_MOST - 1;
 /// So many of a hundred frames are also sent in both framings, to copies.
 const IN_BOTH_PERCENT: usize = 10;
+/// So many of a hundred calls in lists of corruptions are followed by an append to a copy.
+const APPEND_PERCENT: usize = 20;
 /// One list in so many fills a journal of 1000 entries; the first of all does.
 const LONG_EVERY: u64 = 10_000;
 
@@ -93,6 +100,65 @@ impl Lists {
         done.map_err(|difference| format!("{call}\n{difference}"))
     }
 
+    /// The same for a call of a list: a cut comes with its salvage and its power-up.
+    fn list_step(&mut self, both: &mut Both, call: &Call, random: &mut Random) -> Result<Answer, String> {
+        let Call::Cut(cut) = call else {
+            return self.step(both, call, random);
+        };
+        self.note_cut(both, cut, true);
+        cut_by(both, call, cut, |both, call| self.step(both, call, random))
+    }
+
+    fn note_cut(&mut self, both: &Both, cut: &Cut, followed: bool) {
+        let items = interrupted::of_cut(both, cut, followed);
+        items.into_iter().for_each(|item| self.coverage.note(Item::Interrupted(item)));
+    }
+
+    /// Of some updates every cut, most often of those that are seldom; seldom on long volumes, which take long.
+    fn sometimes_every_cut(&mut self, both: &Both, book: &Book, call: &Call, generator: &mut Generator) -> Result<(), String> {
+        let Call::Frame(request) = call else {
+            return Ok(());
+        };
+        let Some(sensor) = appends(both, request).filter(|_| !generator.unbegun) else {
+            return Ok(());
+        };
+        let by_points = both.twin.settings.sensors[sensor].method != DIRECT;
+        let first = both.twin_volume[8 + sensor] == 0;
+        let percent = match (by_points, first) {
+            _ if both.twin_volume.len() >= MOST_WORDS => 5,
+            (false, true) => 10,
+            (false, false) => 20,
+            (true, true) => 40,
+            (true, false) => 100,
+        };
+        if !generator.random.chance(percent) {
+            return Ok(());
+        }
+        self.every_cut(both, book, request, generator)
+    }
+
+    /// Every cut of an update in a list, on copies: demand 3 holds after each. The last one lacks a byte of the reply's room, and leaves nothing.
+    /// Registers aren't read back.
+    fn every_cut(&mut self, both: &Both, book: &Book, request: &Request, generator: &mut Generator) -> Result<(), String> {
+        let mut short = request.clone();
+        short.reply = request.framing.reply_least() - 1;
+        let cuts = (0..=MORE_STORES).map(|stores| (request, stores));
+        for (request, stores) in cuts.chain([(&short, APPEND_STORES)]) {
+            let cut = generator.cut(request.clone(), stores);
+            self.note_cut(both, &cut, false);
+            let (mut both, mut book) = (both.clone(), book.clone());
+            let call = Call::Cut(cut.clone());
+            cut_by(&mut both, &call, &cut, |both, call| {
+                let done = self.comparison.run_unread(both, call, &mut generator.random);
+                done.map_err(|difference| format!("{call}\n{difference}"))
+            })?;
+            follow(&mut book, &call);
+            self.check_book(&both, &book)
+                .map_err(|difference| format!("{call}\n{difference}"))?;
+        }
+        Ok(())
+    }
+
     fn compared_step(&mut self, both: &mut Both, before: &Before, call: &Call, random: &mut Random) -> Result<Answer, String> {
         if let (Call::Frame(request), true) = (call, random.chance(IN_BOTH_PERCENT)) {
             let compared = self.comparison.in_both_framings(both, request, random)?;
@@ -152,9 +218,9 @@ impl Lists {
 
     /// A step of a clean list, which the book follows.
     fn followed_step(&mut self, both: &mut Both, book: &mut Book, call: &Call, generator: &mut Generator) -> Result<(), String> {
-        let answer = self.step(both, call, &mut generator.random)?;
-        if answer.number == 4 {
-            return Err(format!("{call}\nnumber 4 in a clean list"));
+        let answer = self.list_step(both, call, &mut generator.random)?;
+        if [4, 8].contains(&answer.number) {
+            return Err(format!("{call}\nnumber {} in a clean list", answer.number));
         }
         follow(book, call);
         if makes_sonde(call) {
@@ -234,20 +300,24 @@ impl Lists {
             } else {
                 generator.call(&both)
             };
-            self.followed_step(&mut both, &mut book, &call, generator)
+            self.sometimes_every_cut(&both, &book, &call, generator)
+                .and_then(|()| self.followed_step(&mut both, &mut book, &call, generator))
                 .map_err(|difference| format!("call {number}: {difference}"))?;
         }
         Ok(())
     }
 
-    /// Fills a journal of 1000 entries by several technicians, with prints in between, goes on when it is full, and corrupts copies.
+    /// Fills a journal of 1000 entries by several technicians, with prints and cuts in between, goes on when it is full, and corrupts copies.
     fn long(&mut self, generator: &mut Generator) -> Result<(), String> {
         let mut both = Both::new(MOST_WORDS + ENTRY_WORDS + 2, &mut generator.random);
         let mut book = Book::fresh(1);
         let mut calls = VecDeque::from([Call::Fresh { address: 1 }, Call::Begin { words: MOST_WORDS }]);
-        calls.extend([105, 205, 305, 405].map(|register| long_word(generator, register, ENTER)));
+        calls.extend(long_modes(generator));
         let mut number = 0;
         while let Some(call) = calls.pop_front() {
+            if let (Call::Frame(request), LAST_PLACE) = (&call, book.entries().len()) {
+                self.every_cut(&both, &book, request, generator)?;
+            }
             self.followed_step(&mut both, &mut book, &call, generator)
                 .map_err(|difference| format!("call {number}: {difference}"))?;
             number += 1;
@@ -260,7 +330,9 @@ impl Lists {
                     calls.push_back(generator.print(&both, MOST_WORDS));
                 }
                 let register = generator.random.pick(&[105, 205, 305, 405]);
-                calls.push_back(long_word(generator, register, UPDATE));
+                let update = long_word(generator, register, UPDATE);
+                calls.extend(long_cut(generator, &update));
+                calls.push_back(update);
             }
         }
         self.when_full(&mut both, &mut book, generator)?;
@@ -313,7 +385,7 @@ impl Lists {
         for number in 0..generator.random.between(20, 200) {
             let call = generator.call(&both);
             let answer = self
-                .step(&mut both, &call, &mut generator.random)
+                .list_step(&mut both, &call, &mut generator.random)
                 .map_err(|difference| format!("call {number}: {difference}"))?;
             generator.unbegun = (generator.unbegun || makes_sonde(&call)) && !(call.kind() == Kind::Begin && answer.number == 0);
             if number == 20 && generator.random.chance(30) {
@@ -321,6 +393,7 @@ impl Lists {
             }
             if !generator.unbegun {
                 self.corrupted_step(&both, generator)
+                    .and_then(|()| self.append_step(&both, generator))
                     .map_err(|difference| format!("after call {number}, on a copy: {difference}"))?;
             }
         }
@@ -335,6 +408,35 @@ impl Lists {
             generator.random.pick(&OF_VOLUME)
         };
         self.corrupted_by(corruption, both, generator)
+    }
+
+    /// Sometimes an append of any entry, after any number of stores a salvage; on a copy that is as it was, corrupted, or has another last.
+    fn append_step(&mut self, both: &Both, generator: &mut Generator) -> Result<(), String> {
+        if !generator.random.chance(APPEND_PERCENT) {
+            return Ok(());
+        }
+        let mut copy = both.clone();
+        let random = &mut generator.random;
+        match random.below(10) {
+            0..=2 => drop(corrupt_volume(&mut copy, random.pick(&OF_VOLUME), random)),
+            3..=4 => copy.change_volume(|volume| stray_last(volume, random)),
+            _ => {}
+        }
+        let call = generator.append(&copy);
+        let Call::Append { words, entry, stores } = call else {
+            return Ok(());
+        };
+        let before = copy.library_volume[..words].to_vec();
+        let items = interrupted::of_append(&before, &entry, stores);
+        items.into_iter().for_each(|item| self.coverage.note(Item::Appended(item)));
+        self.step(&mut copy, &call, &mut generator.random)?;
+        let answer = self.step(&mut copy, &Call::Salvage { words }, &mut generator.random)?;
+        let held = cuts::hold_any_cut(&before, &copy.library_volume[..words], entry, stores, answer);
+        if held.map_err(|difference| format!("{call}\n{difference}"))? {
+            let stores = stores.min(MORE_STORES);
+            self.coverage.note(Item::Appended(Appended::Valid { stores }));
+        }
+        Ok(())
     }
 
     fn corrupted_by(&mut self, corruption: Corruption, both: &Both, generator: &mut Generator) -> Result<(), String> {
@@ -355,6 +457,7 @@ impl Lists {
                 number,
             });
             hold_print(corruption, call, number).map_err(failed)?;
+            hold_salvage(corruption, call, number, both, &copy).map_err(failed)?;
             let expected = if corruption.harmless() { 0 } else { 4 };
             if call.kind() == Kind::Audit && number != expected && !corruption.uncertain() {
                 return Err(format!("corrupted by {corruption:?}: both audits give {number}, not {expected}"));
@@ -371,13 +474,73 @@ fn follow(book: &mut Book, call: &Call) {
         Call::Begin { words } => book.begin(*words),
         Call::PowerUp { address, .. } => book.power_up(*address),
         Call::Frame(request) => book.frame(&request.bytes, request.reply, request.clock, request.framing),
-        Call::Fresh { .. } | Call::Measure { .. } | Call::Audit { .. } | Call::Print { .. } => {}
+        Call::Cut(Cut { request, stores, address }) => {
+            let Request {
+                bytes,
+                reply,
+                clock,
+                framing,
+                ..
+            } = request;
+            book.cut(bytes, *reply, *clock, *framing, *stores, *address);
+        }
+        Call::Fresh { .. }
+        | Call::Measure { .. }
+        | Call::Audit { .. }
+        | Call::Print { .. }
+        | Call::Append { .. }
+        | Call::Salvage { .. } => {}
+    }
+}
+
+/// A cut, then at once its salvage and its power-up, each by `run`: the salvage gives the volume from before or after the append, and the
+/// power-up isn't refused. The answer is the cut's.
+fn cut_by(
+    both: &mut Both,
+    call: &Call,
+    cut: &Cut,
+    mut run: impl FnMut(&mut Both, &Call) -> Result<Answer, String>,
+) -> Result<Answer, String> {
+    let words = cut.request.words;
+    let failed = |difference: String| format!("after {call}\n{difference}");
+    let before = both.library_volume.clone();
+    let (_, whole) = cuts::carried_out(both, &cut.request);
+    let answer = run(both, call)?;
+    let [salvage, power_up] = cut.following();
+    let salvaged = run(both, &salvage).map_err(failed)?;
+    let volume = &both.library_volume[..words];
+    cuts::hold_cut(&before[..words], &whole[..words], volume, cut.stores, salvaged).map_err(failed)?;
+    match run(both, &power_up).map_err(failed)?.number {
+        0 => Ok(answer),
+        number => Err(failed(format!("the power-up after its salvage gives {number}"))),
     }
 }
 
 /// Words for one to eight entries, and some over.
 fn small_volume(random: &mut Random) -> usize {
     HEADER_WORDS + ENTRY_WORDS * random.pick(&[1, 2, 3, 4, 6, 8]) + random.between(0, 25)
+}
+
+/// Every sensor's mode on.
+fn long_modes(generator: &mut Generator) -> [Call; 4] {
+    [105, 205, 305, 405].map(|register| long_word(generator, register, ENTER))
+}
+
+/// Seldom a cut before the update, of the same one, and the modes on again.
+fn long_cut(generator: &mut Generator, update: &Call) -> Vec<Call> {
+    match update {
+        Call::Frame(request) if generator.random.chance(3) => {
+            let stores = generator.random.below(APPEND_STORES);
+            let cut = Cut {
+                address: 1,
+                ..generator.cut(request.clone(), stores)
+            };
+            let mut calls = vec![Call::Cut(cut)];
+            calls.extend(long_modes(generator));
+            calls
+        }
+        _ => Vec::new(),
+    }
 }
 
 fn long_word(generator: &mut Generator, register: u16, value: u16) -> Call {
@@ -433,6 +596,20 @@ fn hold_print(corruption: Corruption, call: &Call, number: u8) -> Result<(), Str
     }
 }
 
+/// Other chain words go back to those that were, and whether the volume is beyond salvage goes by what was corrupted.
+fn hold_salvage(corruption: Corruption, call: &Call, number: u8, both: &Both, copy: &Both) -> Result<(), String> {
+    if call.kind() != Kind::Salvage {
+        return Ok(());
+    }
+    if corruption.beyond_salvage().is_some_and(|beyond| beyond != (number == 8)) {
+        return Err(format!("both salvages give {number}"));
+    }
+    if corruption.of_chains() && copy.library_volume != both.library_volume {
+        return Err("both salvages don't give the volume from before".to_string());
+    }
+    Ok(())
+}
+
 /// Counters near the number at which they stop.
 fn set_counters(both: &mut Both, random: &mut Random) {
     both.change_sonde(|sonde| {
@@ -465,11 +642,12 @@ fn call_on_wrong(both: &Both, corruption: Corruption, generator: &mut Generator)
         let register = 100 * telling_sensor(&both.twin, corruption) + 105;
         return generator.word_frame(both.twin.address, register, UPDATE, words);
     }
-    match generator.random.below(12) {
+    match generator.random.below(14) {
         0..=1 => Call::Begin { words },
         2..=3 => generator.measure(&both.twin),
         4..=6 => Call::PowerUp { address: 1, words },
         7..=8 => generator.print(both, words),
+        9..=10 if OF_VOLUME.contains(&corruption) => Call::Salvage { words },
         _ => generator.frame(both),
     }
 }

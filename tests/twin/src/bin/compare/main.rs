@@ -2,7 +2,8 @@
 //! buffer or page (filled with random bytes beforehand), the whole volume (its free words too), every field of the sonde bit for bit, and
 //! every register of the map, read by frames on copies. Frames of a list are RTU or ASCII at random, and some are also sent in both
 //! framings, to copies, where the effect has to be the same. Clean lists are also held to the control book (demand 3), and so are the pages
-//! that they print; lists of corrupted sondes and volumes are apart. Wherever it is known whether a frame is bad or a volume valid, both are
+//! that they print. They hold cuts, each with its salvage and power-up; of some updates every cut is tried, on copies. Lists of corrupted
+//! sondes and volumes are apart, and so are appends of any entry to any words. Wherever it is known whether a frame is bad or a volume valid, both are
 //! held to that, and so is the fault that the serial host names. At the end the run has to have met everything that `coverage` requires. The
 //! rounds of the CRC, which take no sonde, are compared by themselves, at every sum.
 
@@ -13,7 +14,9 @@ mod calls;
 mod convert;
 mod corrupt;
 mod coverage;
+mod cuts;
 mod generate;
+mod interrupted;
 mod library;
 mod lists;
 mod printed;
@@ -132,9 +135,10 @@ fn report(shares: &[Lists], rounds: &str) -> ExitCode {
     }
     let both: u64 = shares.iter().map(|lists| lists.in_both_framings).sum();
     println!(
-        "{calls} calls and {registers} registers compared, {}, {both} requests in both framings, {}, {rounds}, faults asked of {volumes} volumes, no difference",
+        "{calls} calls and {registers} registers compared, {}, {both} requests in both framings, {}, {}, {rounds}, faults asked of {volumes} volumes, no difference",
         coverage.ascii(),
-        coverage.prints()
+        coverage.prints(),
+        coverage.cuts()
     );
     ExitCode::SUCCESS
 }
