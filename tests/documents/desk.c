@@ -9,6 +9,8 @@
  *     ascii CLOCK BYTES                    number and the reply's characters as bytes, in ASCII
  *     load WORDS                           0; the volume is these words from then on
  *     words                                the volume's words
+ *     append STORES WORDS                  0; so many stores of the append of an entry, whose 24 words these are
+ *     salvage                              number and the words changed
  */
 #include <stdio.h>
 #include <stdlib.h>
@@ -29,11 +31,14 @@ static unsigned made_by(SondeMade made) {
     return made.number;
 }
 
-static float float_of(const char *bits) {
-    uint32_t all = (uint32_t)strtoul(bits, NULL, 16);
+static float float_in(uint32_t bits) {
     float value;
-    memcpy(&value, &all, sizeof value);
+    memcpy(&value, &bits, sizeof value);
     return value;
+}
+
+static float float_of(const char *bits) {
+    return float_in((uint32_t)strtoul(bits, NULL, 16));
 }
 
 static unsigned begin(size_t count) {
@@ -67,6 +72,26 @@ static void load(void) {
     printf("0");
 }
 
+static void append(void) {
+    size_t stores = (size_t)atol(strtok(NULL, " "));
+    uint32_t pairs[12] = {0}; /* the entry's words two by two, as its time and its floats stand */
+    for (size_t i = 0; i < 24; i++) pairs[i / 2] = pairs[i / 2] << 16 | (uint16_t)strtoul(strtok(NULL, " "), NULL, 16);
+    SondeEntry entry = {
+        .sensor = (uint16_t)pairs[0],
+        .method = (uint16_t)(pairs[1] >> 16),
+        .technician = (uint16_t)pairs[1],
+        .calibration = {float_in(pairs[3]), float_in(pairs[4]), float_in(pairs[5]), pairs[2]},
+        .points = {float_in(pairs[6]), float_in(pairs[7]), float_in(pairs[8]), float_in(pairs[9])},
+    };
+    sonde_append(volume, words, entry, stores);
+    printf("0");
+}
+
+static void salvage(void) {
+    SondeSalvage salvaged = sonde_salvage(volume, words);
+    printf("%u %u", salvaged.number, salvaged.changed);
+}
+
 int main(void) {
     static char line[6 * MOST];
     while (fgets(line, sizeof line, stdin) != NULL) {
@@ -80,6 +105,8 @@ int main(void) {
         else if (strcmp(call, "frame") == 0) frame(false);
         else if (strcmp(call, "ascii") == 0) frame(true);
         else if (strcmp(call, "load") == 0) load();
+        else if (strcmp(call, "append") == 0) append();
+        else if (strcmp(call, "salvage") == 0) salvage();
         else if (strcmp(call, "words") == 0) for (size_t i = 0; i < words; i++) printf("%s%04X", i == 0 ? "" : " ", volume[i]);
         else return 2;
         printf("\n");

@@ -1046,6 +1046,108 @@ def row_of_volumes(desk, _, archive):
         equal(new[a + b * sensor : c + d * sensor + 1] + new[e + f * sensor : g + h * sensor + 1], state, f"the opening of sensor {sensor}")
 
 
+def relinked(words):
+    """Steps 3 and 4 of a salvage by hand; None where step 2 finds entries that aren't there, or no sensor."""
+    words, used = list(words), words[2]
+    entries = [64 + 24 * i for i in range(used)]
+    if used > words[1] or any(words[entry + 1] not in SENSORS for entry in entries):
+        return None
+    for at in (*range(4, 12), *entries):
+        words[at] = 0
+    for i, entry in enumerate(entries, 1):
+        sensor = words[entry + 1]
+        link = 3 + sensor if words[3 + sensor] == 0 else entries[words[7 + sensor] - 1]
+        words[link] = words[7 + sensor] = i
+    return words
+
+
+def salvaged(desk, words):
+    """What the library's salvage makes of words: a number, how many words changed, and the words, held to the steps by hand."""
+    by_hand = relinked(words)
+    desk.load(by_hand or words)
+    mends = by_hand is not None and desk.call("power-up 1") == 0
+    desk.load(words)
+    number, changed = map(int, desk.ask("salvage")[0].split())
+    after = desk.words()
+    equal(number, 0 if mends else 8, "the number of a salvage")
+    equal(after, by_hand if mends else words, "the words after a salvage")
+    equal(changed, sum(a != b for a, b in zip(words, after)), "the words that a salvage changed")
+    return number, changed, after
+
+
+def two_entries(archive):
+    """The worked volume before its entry 3 was appended; the free words are A5A5."""
+    words = archive.worked()[:112] + [0xA5A5] * 24
+    words[2], words[9], words[64] = 2, 1, 0
+    return words
+
+
+def after_a_cut(desk, _, archive):
+    """The worked volume, cut at each store while its entry 3 was appended; salvage by the library and by hand."""
+    archive.says(r"1\.\.24 \| 64 \+ 24 × n, .* 25 \| word 0 of the sensor's last entry, or word 3 \+ s .* 26 \| 7 \+ s .* 27 \| 2 \|")
+    archive.says("Write 0 to words 4..11 and to word 0 of the entries 1 to n")
+    archive.says(r"if word 3 \+ s is 0, write i there; else write i to word 0 of the entry that word 7 \+ s names. Then write i to word 7 \+ s")
+    worked, old = archive.worked(), two_entries(archive)
+    rows = archive.table("Stores", "Word 2", "Word 9", "Word 64", "Whole", "Words that salvage changes")
+    equal([stores for row in rows for stores in numbers(row[0])], list(range(28)), "the stores of an append")
+    before = old
+    for stores, *words, whole, changed in ((n, *row[1:]) for row in rows for n in numbers(row[0])):
+        found = appended(desk, old, worked[112:], stores)
+        place = [*range(112, 136), 64, 9, 2][:stores][-1:]
+        equal([at for at in range(136) if found[at] != before[at]], place, f"the word of store {stores}")
+        equal(hexadecimal((found[at] for at in (2, 9, 64)), 4).split(), words, f"the words after {stores} stores")
+        desk.load(found)
+        equal(desk.call("power-up 1"), 0 if whole == "yes" else 4, f"power-up after {stores} stores")
+        number, count, after = salvaged(desk, found)
+        equal((number, count), (0, int(changed)), f"the salvage after {stores} stores")
+        equal(after[: 64 + 24 * after[2]], worked if stores == 27 else old[:112], f"the volume after {stores} stores and a salvage")
+        before = found
+
+
+def salvage_by_hand(desk, _, archive):
+    """The example after 26 stores, word by word; and the first entry of each sensor's chain."""
+    archive.says("After 26 stores every word is as printed above but word 2")
+    text, = archive.says(r"Words 4\.\.11 are then `([0-9A-F ]+)`, words 64 and 88 are 0, and two words differ from those found: 9 \(0003 before, now 0001\) and 64 \(0003 before, now 0000\)")
+    worked = archive.worked()
+    found = worked[:2] + [2] + worked[3:]
+    equal(found, appended(desk, two_entries(archive), worked[112:], 26), "the words after 26 stores")
+    after = salvaged(desk, found)[2]
+    equal([int(word, 16) for word in text.split()], after[4:12], "words 4..11")
+    equal({at: (found[at], after[at]) for at in range(136) if found[at] != after[at]}, {9: (3, 1), 64: (3, 0)}, "the words that differ")
+    for sensor in SENSORS:
+        desk.fresh(88)
+        begun, entry = desk.words(), [0, sensor, 0, 7, 0, 1000, 0, 0, 0x3F80, *[0] * 15]
+        equal(appended(desk, begun, entry, 26)[4:12], [int(at in (3 + sensor, 7 + sensor)) for at in range(4, 12)], "the first and the last word")
+        equal([salvaged(desk, appended(desk, begun, entry, stores))[1] for stores in range(28)], [0] * 25 + [1, 2, 0], "the words that change")
+
+
+def appended(desk, words, entry, stores):
+    desk.load(words)
+    assert desk.call(f"append {stores} {hexadecimal(entry, 4)}") == 0
+    return desk.words()
+
+
+def salvaged_flips(desk, _, archive):
+    """Every bit of the worked volume is flipped, one at a time, and salvaged."""
+    said = archive.says(
+        r"Of the (\d+) flips of the worked volume it leaves the (\d+) unseen ones as they are, undoes all (\d+) in chain words and refuses (\d+) by number 8\. The (\d+) others"
+    )
+    others = archive.says(r"bit (\d) of word (\d+) \(the very words of .*?\), bit (\d) of word (\d+) \(.*?; (\d) words change\) and bit (\d) of word (\d+) \(.*?; (\d) words change\)")
+    worked = archive.worked()
+    left, undone, beyond, made = 0, [], 0, []
+    for word in range(len(worked)):
+        for bit in range(16):
+            found = worked[:word] + [worked[word] ^ 1 << bit] + worked[word + 1 :]
+            number, changed, after = salvaged(desk, found)
+            left += number == 0 and changed == 0
+            beyond += number == 8
+            if number == 0 and changed > 0:
+                (undone if after == worked else made).append((bit, word, changed))
+    equal([16 * len(worked), left, len(undone), beyond, len(made)], [int(count) for count in said], "the flips, and those left, undone, refused and others")
+    equal({word for _, word, _ in undone}, {*range(4, 12), 64, 88, 112}, "the words of the flips that are undone")
+    equal([number for flip in made for number in flip], [*map(int, others[:2]), 2, *map(int, others[2:])], "the other flips, and the words that change")
+
+
 def page_columns(_, __, archive):
     """The columns of the page, by which the printed lines are read as the worked volume has them."""
     places = {}
@@ -1076,7 +1178,10 @@ CHECKS = {
         *(checksum, layouts, ascii_checksum, lengths, bad_ascii, digits, ascii_exchange, said, order, broadcast, past_the_end),
         *(existing, access, parameters, limits, readings, in_mode, calibration, refused_by_limits, who_calibrates, after_a_refusal, restart),
     ),
-    "ARCHIVE.md": (no_word_of_refused, rounding, names, sizes, no_coefficients, third, technicians, flips, either_framing, row_of_volumes, page_columns),
+    "ARCHIVE.md": (
+        *(no_word_of_refused, rounding, names, sizes, no_coefficients, third, technicians, flips, either_framing, row_of_volumes),
+        *(after_a_cut, salvage_by_hand, salvaged_flips, page_columns),
+    ),
 }
 
 

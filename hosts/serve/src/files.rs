@@ -167,14 +167,30 @@ pub struct Written {
 
 /// Writes a file that isn't there yet, at one stroke: after a power cut it isn't there, or it is whole.
 pub fn create(path: &Path, bytes: &[u8]) -> Result<Written, String> {
-    put(path, bytes, |new| {
-        let made = sys::rename_new(new, path).map_err(|e| e.to_string())?;
-        match made {
-            Some(()) => Ok(()),
-            None if Identity::at(path).is_ok() => Err("another program has just made it".to_string()),
-            None => fs::rename(new, path).map_err(|e| e.to_string()),
-        }
-    })
+    put(path, bytes, |new| place_new(new, path))
+}
+
+/// Writes a copy beside a file that is there, with its owner and permissions, by the first name that nothing has: with the ending, then with
+/// `-2`, `-3` and so on behind it. At one stroke, as `create`.
+pub fn keep(path: &Path, ending: &str, bytes: &[u8]) -> Result<(PathBuf, Written), String> {
+    let mut kept = beside(path, ending);
+    let mut count = 1;
+    while Identity::at(&kept).is_ok() {
+        count += 1;
+        kept = beside(path, &format!("{ending}-{count}"));
+    }
+    let written = put(path, bytes, |new| place_new(new, &kept))?;
+    Ok((kept, written))
+}
+
+/// Renames a file where nothing stands yet.
+fn place_new(new: &Path, path: &Path) -> Result<(), String> {
+    let made = sys::rename_new(new, path).map_err(|e| e.to_string())?;
+    match made {
+        Some(()) => Ok(()),
+        None if Identity::at(path).is_ok() => Err("another program has just made it".to_string()),
+        None => fs::rename(new, path).map_err(|e| e.to_string()),
+    }
 }
 
 /// Replaces a file at one stroke: after a power cut it is the old or the new one, whole. `is_own` looks at the file before it goes; where it

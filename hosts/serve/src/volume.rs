@@ -1,9 +1,12 @@
 //! The volume in its file: the words in order, each with its high byte first, and nothing else.
 
+mod salvage;
+
 use crate::fault::{self, ENTRY_WORDS, HEADER_WORDS};
 use crate::files::{self, beside, left_over, open_itself, open_regular, read_most, resolved, Identity, Lock, Written};
 use crate::say;
-use sonde::{Sonde, LEAST_WORDS};
+use salvage::Mended;
+use sonde::{Error, Sonde, LEAST_WORDS};
 use std::fs::File;
 use std::path::{Path, PathBuf};
 
@@ -32,7 +35,8 @@ pub struct VolumeFile {
 }
 
 impl VolumeFile {
-    /// Powers a sonde up from the file. Where there is none, begins a volume for a fresh sonde and writes the file.
+    /// Powers a sonde up from the file, salvaged where it isn't valid. Where there is none, begins a volume for a fresh sonde and writes the
+    /// file.
     pub fn open(path: &Path, address: u8, entries: Option<usize>) -> Result<(VolumeFile, Sonde), String> {
         let place = resolved(path).map_err(named(path))?;
         if Identity::at(&place).is_err() {
@@ -63,7 +67,7 @@ impl VolumeFile {
         }
         let new_place = resolved(new).map_err(named(new))?;
         let place = resolved(path).map_err(named(path))?;
-        let ((_, sonde), before) = locked(&place, || power_up(&place, address)).map_err(named(path))?;
+        let ((_, sonde), before) = locked(&place, |_| power_up(&place, address)).map_err(named(path))?;
         VolumeFile::begun(&new_place, sonde, entries, Some(before)).map_err(named(new))
     }
 
@@ -79,8 +83,8 @@ impl VolumeFile {
                 "the file has {names} names (hard links), and a calibration would reach only this one"
             ));
         }
-        let ((saved, sonde), lock) = locked(place, || {
-            let found = power_up(place, address)?;
+        let ((saved, sonde), lock) = locked(place, |lock| {
+            let found = power_up_or_salvage(place, address, lock)?;
             files::can_replace(place).map_err(|e| format!("its folder takes no new file, so no calibration could be kept: {e}"))?;
             Ok(found)
         })?;
@@ -88,7 +92,7 @@ impl VolumeFile {
     }
 
     fn begun(place: &Path, sonde: Sonde, entries: Option<usize>, before: Option<Lock>) -> Result<(VolumeFile, Sonde), String> {
-        match locked(place, || begin(place, &sonde, entries.unwrap_or(MOST_ENTRIES))) {
+        match locked(place, |_| begin(place, &sonde, entries.unwrap_or(MOST_ENTRIES))) {
             Ok((saved, lock)) => Ok((VolumeFile::new(place, saved, lock, before), sonde)),
             Err(e) => {
                 if let Some(lock) = before {
@@ -138,22 +142,23 @@ impl VolumeFile {
             return Ok(false);
         }
         let unkept = |e| format!("{} can't be written: {e}; the calibration is not in it", self.path.display());
-        let written = self.replace().map_err(unkept)?;
+        let written = self.saved.replace(&self.path, &self.words, &self.lock).map_err(unkept)?;
         self.saved.identity = written.identity;
         self.saved.words.clone_from(&self.words);
         let unsure = |e| format!("{} is written, but may not outlast a power cut: {e}", self.path.display());
         written.synced.map(|()| true).map_err(unsure)
     }
-
-    fn replace(&self) -> Result<Written, String> {
-        if !self.lock.is_held() {
-            return Err("its lock file was removed or replaced, so another server may have it".to_string());
-        }
-        files::replace(&self.path, &to_bytes(&self.words), |path| self.saved.is_at(path))
-    }
 }
 
 impl Content {
+    /// Puts a file with other words in the place of this one.
+    fn replace(&self, path: &Path, words: &[u16], lock: &Lock) -> Result<Written, String> {
+        if !lock.is_held() {
+            return Err("its lock file was removed or replaced, so another server may have it".to_string());
+        }
+        files::replace(path, &to_bytes(words), |path| self.is_at(path))
+    }
+
     /// Whether nobody else has been at the file.
     fn is_at(&self, path: &Path) -> Result<(), String> {
         let there = open_itself(path).and_then(Content::of);
@@ -187,9 +192,9 @@ pub fn check(path: &Path) -> Result<String, String> {
 }
 
 /// Does something with a volume while it is locked. Where that is refused, no new lock file is left.
-fn locked<T>(place: &Path, work: impl FnOnce() -> Result<T, String>) -> Result<(T, Lock), String> {
+fn locked<T>(place: &Path, work: impl FnOnce(&Lock) -> Result<T, String>) -> Result<(T, Lock), String> {
     let lock = Lock::take(&beside(place, ".lock"))?;
-    match work() {
+    match work(&lock) {
         Ok(done) => Ok((done, lock)),
         Err(e) => {
             lock.undo();
@@ -198,19 +203,39 @@ fn locked<T>(place: &Path, work: impl FnOnce() -> Result<T, String>) -> Result<(
     }
 }
 
+fn read(path: &Path) -> Result<Content, String> {
+    open_regular(path).and_then(Content::of)
+}
+
+/// Writes nothing.
 fn power_up(path: &Path, address: u8) -> Result<(Content, Sonde), String> {
-    let content = open_regular(path).and_then(Content::of)?;
-    let sonde = Sonde::power_up(address, &content.words).map_err(|e| refusal(e, &content.words))?;
-    Ok((content, sonde))
+    let content = read(path)?;
+    match Sonde::power_up(address, &content.words) {
+        Ok(sonde) => Ok((content, sonde)),
+        Err(e) => Err(refusal(e, path, &content.words)),
+    }
+}
+
+/// The same, but a volume that salvage mends is mended in its file.
+fn power_up_or_salvage(place: &Path, address: u8, lock: &Lock) -> Result<(Content, Sonde), String> {
+    let found = read(place)?;
+    let refused = match Sonde::power_up(address, &found.words) {
+        Ok(sonde) => return Ok((found, sonde)),
+        Err(e) => e,
+    };
+    let Ok(mended) = Mended::of(&found.words) else {
+        return Err(refusal(refused, place, &found.words));
+    };
+    let sonde = Sonde::power_up(address, &mended.words).map_err(|e| refusal(e, place, &mended.words))?;
+    Ok((found.salvaged(place, mended, lock)?, sonde))
 }
 
 /// The verdict is the library's; the fault is named by this host.
-fn refusal(error: sonde::Error, words: &[u16]) -> String {
+fn refusal(error: Error, path: &Path, words: &[u16]) -> String {
+    let number = error as u8;
     let fault = fault::first(words).map_or(String::new(), |fault| format!(": {fault}"));
-    format!(
-        "power-up is refused with number {}, since it is no valid volume{fault}; the file stays as it is",
-        error as u8
-    )
+    let salvage = salvage::prospect(path, words);
+    format!("power-up is refused with number {number}, since it is no valid volume{fault}; {salvage}; the file stays as it is")
 }
 
 fn begin(place: &Path, sonde: &Sonde, entries: usize) -> Result<Content, String> {

@@ -86,15 +86,17 @@ impl Folder {
 
     /// Runs a server that can't start: exit status and standard error.
     pub fn refused(&self, words: &str) -> (i32, String) {
-        let mut server = self.spawn(self.command(SERVE, words));
-        assert_eq!(server.path, PathBuf::new(), "{words}");
-        server.ended()
+        self.refusing(self.command(SERVE, words), words)
     }
 
     /// The same with an environment variable.
     pub fn refused_with(&self, name: &str, value: &Path, words: &str) -> (i32, String) {
         let mut command = self.command(SERVE, words);
         command.env(name, value);
+        self.refusing(command, words)
+    }
+
+    fn refusing(&self, command: Command, words: &str) -> (i32, String) {
         let mut server = self.spawn(command);
         assert_eq!(server.path, PathBuf::new(), "{words}");
         server.ended()
@@ -114,10 +116,19 @@ impl Folder {
 
     /// A server that can write no file, as on a full disk.
     pub fn serve_on_full_disk(&self, words: &str) -> Server {
+        self.serving(self.on_full_disk(words), words)
+    }
+
+    /// The same that can't start: exit status and standard error.
+    pub fn refused_on_full_disk(&self, words: &str) -> (i32, String) {
+        self.refusing(self.on_full_disk(words), words)
+    }
+
+    fn on_full_disk(&self, words: &str) -> Command {
         let mut command = Command::new("sh");
         let script = format!("trap '' XFSZ; ulimit -f 0; exec {SERVE} {words}");
         command.current_dir(&self.0).arg("-c").arg(script);
-        self.serving(command, words)
+        command
     }
 
     fn serving(&self, command: Command, words: &str) -> Server {

@@ -74,6 +74,8 @@ fn help_names_every_option() {
         "as Modbus RTU or ASCII",
         "there is no time-out",
         "Refused with --ascii",
+        "salvaged",
+        "FILE.unsalvaged-2",
     ] {
         assert!(text.contains(limit), "{limit}");
     }
