@@ -54,7 +54,7 @@ fn times(rows: &[Row]) -> Vec<Sides> {
 }
 
 fn taking_part(row: &Row, name: &str) -> Option<Box<dyn Side>> {
-    side(name).filter(|_| name != "libmodbus" || row.libmodbus)
+    side(name).filter(|_| row.has_part(name))
 }
 
 /// Calls for a count of instructions.
@@ -99,6 +99,12 @@ fn print(name: &str, times: Sides, counts: Sides, unit: f64) {
     println!("| {} |", cells.join(" | "));
 }
 
+/// What one row is to another, for each side that has both.
+fn shares(own: Sides, other: Sides) -> String {
+    let share = |i: usize| Some(format!("{} {:.2}", NAMES[i], own[i]? / other[i]?));
+    (0..NAMES.len()).filter_map(share).collect::<Vec<_>>().join(", ")
+}
+
 fn main() {
     let arguments: Vec<String> = std::env::args().skip(1).collect();
     if !arguments.is_empty() {
@@ -140,4 +146,7 @@ fn main() {
         .zip(checksum)
         .filter_map(|(name, time)| Some(format!("{name} {:.0}", 1000.0 / time?)));
     println!("\nchecksum, million bytes in a second: {}", speeds.collect::<Vec<_>>().join(", "));
+    let (salvage, audit) = (of(rows::SALVAGE), of(rows::AUDIT));
+    let (times, counts) = (shares(salvage.0, audit.0), shares(salvage.1, audit.1));
+    println!("salvage to audit, 1000 entries: {times}; by instructions: {counts}");
 }

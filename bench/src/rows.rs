@@ -8,6 +8,8 @@ pub enum Work {
     /// Accepted calibrations, `UPDATES` to a journal.
     Update,
     Audit,
+    /// Of a valid volume: no word is changed.
+    Salvage,
     Print,
 }
 
@@ -87,6 +89,10 @@ pub const ASCII_LONG: &str = "ASCII: long bad frame";
 pub const ASCII_SHORT: &str = "ASCII: short bad frame";
 pub const DECODED: f64 = 244.0;
 
+/// The row of a salvage, and that of the audit that it is compared with.
+pub const SALVAGE: &str = "salvage, 1000 entries";
+pub const AUDIT: &str = "audit, 1000 entries";
+
 /// Frames of these lengths, their checksum included, are measured good and bad.
 const LENGTHS: [usize; 5] = [8, 9, 63, 255, 256];
 
@@ -110,6 +116,7 @@ pub fn rows() -> Vec<Row> {
     for entries in [0, 1, 10, 100, 1000] {
         rows.push(row(format!("audit, {entries} entries"), entries, Work::Audit, false));
     }
+    rows.push(row(SALVAGE, 1000, Work::Salvage, false));
     for entries in [1, 10, 100, 1000] {
         rows.push(row(
             format!("read of 1 register, {entries} entries"),
@@ -143,6 +150,14 @@ fn ascii_rows() -> [Row; 5] {
 }
 
 impl Row {
+    /// Whether a side can do it.
+    pub fn has_part(&self, side: &str) -> bool {
+        match side {
+            "libmodbus" => self.libmodbus,
+            _ => true,
+        }
+    }
+
     /// A journal with the row's entries, on the four sensors in turn, and sensors in mode.
     pub fn prepare(&self, side: &mut dyn Side) {
         for sensor in 1..=4 {
@@ -165,6 +180,9 @@ impl Row {
             }),
             Work::Audit => (0..calls).for_each(|_| {
                 std::hint::black_box(side.audit());
+            }),
+            Work::Salvage => (0..calls).for_each(|_| {
+                assert_eq!(std::hint::black_box(side.salvage()), 0);
             }),
             Work::Print => (0..calls).for_each(|_| {
                 std::hint::black_box(side.print());

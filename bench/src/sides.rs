@@ -17,6 +17,8 @@ pub trait Side {
     fn audit(&mut self) -> usize;
     /// The journal on a page; the length of the lines.
     fn print(&mut self) -> usize;
+    /// The chain words that a salvage changes.
+    fn salvage(&mut self) -> usize;
 }
 
 pub struct Library {
@@ -64,6 +66,10 @@ impl Side for Library {
 
     fn print(&mut self) -> usize {
         sonde::print(&self.volume, &mut self.page).expect("no number").len()
+    }
+
+    fn salvage(&mut self) -> usize {
+        sonde::salvage(&mut self.volume).expect("no number").into()
     }
 }
 
@@ -118,6 +124,12 @@ impl Side for Twin {
         assert_eq!(number, 0);
         length as usize
     }
+
+    fn salvage(&mut self) -> usize {
+        let (number, changed) = twin::salvage(&mut self.volume);
+        assert_eq!(number, 0);
+        changed.into()
+    }
 }
 
 /// libmodbus' server on 500 registers in memory. It has no journal and no ASCII.
@@ -147,6 +159,10 @@ impl Side for LibModbus {
     }
 
     fn print(&mut self) -> usize {
+        0
+    }
+
+    fn salvage(&mut self) -> usize {
         0
     }
 }

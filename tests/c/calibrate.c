@@ -1,8 +1,9 @@
 /*
  * A host in C, through include/sonde.h: begins a volume, calibrates sensor 2 over frames (two points), reads the calibration back, powers up
  * and audits, then does the same in ASCII, and in both framings side by side; then an update that fails for its limits alone, read back and
- * corrected; then technicians who give their numbers, and the entries that name them; then it prints a journal, and at last it sums frames by rounds of the
- * CRC. Each step is compared with the bytes and numbers that documents 01 and 02 give; the exit status is 1 where one differs.
+ * corrected; then technicians who give their numbers, and the entries that name them; then it prints a journal, sums frames by rounds of the CRC, and
+ * at last cuts appends short and salvages what they leave. Each step is compared with the bytes and numbers that documents 01 and 02 give; the exit
+ * status is 1 where one differs.
  */
 #include <stdio.h>
 #include <string.h>
@@ -466,6 +467,274 @@ static void in_rounds(void) {
     check(f.number == SONDE_OK && f.length == 7 && memcmp(reply, "\x11\x03\x02\x00\x03", 5) == 0 && summed(reply, 7) == 0, "rounds: the reply leaves 0");
 }
 
+/* ---- after a cut: word by word, the stores of an append are made here too */
+
+#define FREE 0xBEEF /* what free words hold */
+
+/* A calibration of this sensor that is fit, the k-th of a volume. */
+static SondeEntry entry_of(uint16_t sensor, uint16_t k) {
+    static const SondeEntry fit[4] = {
+        {1, 1, 0, {0.0f, 1.25f, 0.0f, 0}, {1000.0f, 1250.0f, 0.0f, 0.0f}},
+        {2, 2, 0, {0.0f, 1.125f, 0.0f, 0}, {8.0f, 9.0f, 0.0f, 0.0f}},
+        {3, 0, 0, {-0.0f, 2.5f, -2.0f, 0}, {0.0f, 0.0f, 0.0f, 0.0f}},
+        {4, 0, 0, {-1.5f, 2.0f, 0.0f, 0}, {0.0f, 0.0f, 0.0f, 0.0f}},
+    };
+    SondeEntry e = fit[sensor - 1];
+    e.technician = 0xA500 + k;
+    e.calibration.time = 0x12345678 + k;
+    return e;
+}
+
+typedef struct { size_t at; uint16_t word; } Store;
+
+/* The stores of an append, in their order. */
+static void stores_of(const uint16_t *words, SondeEntry e, Store stores[SONDE_APPEND_STORES]) {
+    SondeCalibration c = e.calibration;
+    uint16_t used = words[2], index = used + 1, last = words[7 + e.sensor];
+    uint16_t entry[24] = {0, e.sensor, e.method, e.technician, (uint16_t)(c.time >> 16), (uint16_t)c.time};
+    float floats[7] = {c.coefficient1, c.coefficient2, c.coefficient3, e.points.x1, e.points.y1, e.points.x2, e.points.y2};
+    for (int i = 0; i < 7; i++) {
+        uint32_t bits;
+        memcpy(&bits, &floats[i], sizeof bits);
+        entry[6 + 2 * i] = (uint16_t)(bits >> 16);
+        entry[7 + 2 * i] = (uint16_t)bits;
+    }
+    for (size_t i = 0; i < 24; i++) stores[i] = (Store){64 + 24u * used + i, entry[i]};
+    stores[24] = (Store){last == 0 ? 3u + e.sensor : 64 + 24u * (last - 1u), index};
+    stores[25] = (Store){7u + e.sensor, index};
+    stores[26] = (Store){2, index};
+}
+
+/* The first n stores made, without the library. */
+static void cut_after(uint16_t *words, SondeEntry e, size_t n) {
+    Store stores[SONDE_APPEND_STORES];
+    stores_of(words, e, stores);
+    for (size_t i = 0; i < n && i < SONDE_APPEND_STORES; i++) words[stores[i].at] = stores[i].word;
+}
+
+/* A volume whose entries are of these sensors, the first n digits. */
+static void filled(uint16_t *words, const char *sensors, size_t n) {
+    for (size_t i = 0; i < WORDS; i++) words[i] = FREE;
+    sonde_begin(sonde_fresh(17).sonde, words, WORDS);
+    for (size_t k = 0; k < n; k++) cut_after(words, entry_of((uint16_t)(sensors[k] - '0'), (uint16_t)k), SONDE_APPEND_STORES);
+}
+
+static bool same_words(const uint16_t *a, const uint16_t *b, size_t n) {
+    return memcmp(a, b, n * sizeof *a) == 0;
+}
+
+static void check_cut(bool holds, const char *call, const char *sensors, size_t n) {
+    char what[100];
+    snprintf(what, sizeof what, "%s: sensors %s, the last one's entry cut after %zu stores", call, sensors, n);
+    check(holds, what);
+}
+
+/* Journals by the sensors of their entries. The entry of the last digit is cut: the first of its sensor, or linked to one before it, the last or not. */
+static const char *const journals[] = {"1", "11", "21", "121", "224", "343"};
+#define JOURNALS (sizeof journals / sizeof *journals)
+
+static void in_stores(void) {
+    static uint16_t words[WORDS], due[WORDS];
+    static const size_t all[] = {SONDE_APPEND_STORES, SONDE_APPEND_STORES + 1, 65536 + 3, SIZE_MAX};
+    for (size_t j = 0; j < JOURNALS; j++) {
+        size_t before = strlen(journals[j]) - 1;
+        SondeEntry e = entry_of((uint16_t)(journals[j][before] - '0'), (uint16_t)before);
+        for (size_t n = 0; n <= SONDE_APPEND_STORES; n++) {
+            filled(words, journals[j], before);
+            filled(due, journals[j], before);
+            cut_after(due, e, n);
+            sonde_append(words, WORDS, e, n);
+            check_cut(same_words(words, due, WORDS), "append", journals[j], n);
+        }
+        filled(due, journals[j], before + 1);
+        for (size_t i = 0; i < sizeof all / sizeof *all; i++) {
+            filled(words, journals[j], before);
+            sonde_append(words, WORDS, e, all[i]);
+            check_cut(same_words(words, due, WORDS), "append", journals[j], all[i]);
+        }
+        SondeAudit audit = sonde_audit(sonde_power_up(17, words, WORDS).sonde, words, WORDS);
+        check(audit.number == SONDE_OK && audit.entries == before + 1, "append: all stores make a volume that agrees");
+    }
+}
+
+/* What isn't stored: nothing unless the sensor is one and an entry is spare; of a chain whose last is past the end, no link. */
+static void not_stored(void) {
+    static uint16_t words[WORDS + 24], due[WORDS + 24];
+    static const struct { const char *what, *sensors; size_t length; uint16_t used, sensor; } none[] = {
+        {"append: sensor 0", "12", WORDS, 2, 0},
+        {"append: sensor 5", "12", WORDS, 2, 5},
+        {"append: sensor 65535", "12", WORDS, 2, 65535},
+        {"append: a full volume", "121", WORDS, 3, 1},
+        {"append: word 2 above the capacity", "121", WORDS, 4, 1},
+        {"append: word 2 is 65535", "121", WORDS, 65535, 1},
+        {"append: a volume that is full by its length", "1", SONDE_LEAST_WORDS, 1, 1},
+        {"append: 87 words", "", SONDE_LEAST_WORDS - 1, 0, 1},
+        {"append: 3 words", "", 3, 0, 1},
+        {"append: no words", "", 0, 0, 1},
+    };
+    for (size_t i = 0; i < sizeof none / sizeof *none; i++) {
+        filled(words, none[i].sensors, strlen(none[i].sensors));
+        words[2] = none[i].used;
+        memcpy(due, words, sizeof due);
+        SondeEntry e = entry_of(1, 7);
+        e.sensor = none[i].sensor;
+        for (size_t n = 0; n <= SONDE_APPEND_STORES; n++) sonde_append(words, none[i].length, e, n);
+        sonde_append(words, none[i].length, e, SIZE_MAX);
+        check(same_words(words, due, WORDS + 24), none[i].what);
+    }
+
+    filled(words, "1", 1);
+    words[8] = 4; /* entry 4 would begin just behind the volume */
+    memcpy(due, words, sizeof due);
+    cut_after(due, entry_of(1, 1), SONDE_APPEND_STORES);
+    due[WORDS] = words[WORDS];
+    sonde_append(words, WORDS, entry_of(1, 1), SONDE_APPEND_STORES);
+    check(same_words(words, due, WORDS + 24), "append: a link past the end is no store, and the others are made");
+}
+
+/* The journal of calibrated_thrice, by its entries. */
+static void as_by_frames(void) {
+    static uint16_t words[WORDS];
+    static const SondeEntry thrice[] = {
+        {1, 1, 7, {0.0f, 1.25f, 0.0f, 0x12345678}, {1000.0f, 1250.0f, 0.0f, 0.0f}},
+        {3, 0, 65535, {-0.0f, 0.0f, -2.0f, 0x12345678}, {0.0f, 0.0f, 0.0f, 0.0f}},
+        {2, 0, 0, {0.0f, 1.0f, 0.0f, 0x12345678}, {0.0f, 0.0f, 0.0f, 0.0f}},
+    };
+    memset(volume, 0, sizeof volume);
+    Sonde s = calibrated_thrice();
+    begun(words);
+    for (size_t i = 0; i < 3; i++) sonde_append(words, WORDS, thrice[i], SONDE_APPEND_STORES);
+    check(same_words(words, volume, WORDS), "append: word for word what accepted calibrations leave");
+    SondeAudit audit = sonde_audit(s, words, WORDS);
+    check(audit.number == SONDE_OK && audit.entries == 3, "append: it agrees with the sonde that was calibrated");
+}
+
+/* A salvage that is done: so many words changed, and these are left. */
+static bool salvages(uint16_t *words, const uint16_t *due, uint16_t changed) {
+    SondeSalvage s = sonde_salvage(words, WORDS);
+    return s.number == SONDE_OK && s.changed == changed && same_words(words, due, WORDS);
+}
+
+/* The volume from before, or with all stores the one from after, but for the free words; again nothing changes, and a power-up agrees with it. */
+static void after_cuts(void) {
+    static uint16_t words[WORDS], due[WORDS];
+    for (size_t j = 0; j < JOURNALS; j++) {
+        size_t before = strlen(journals[j]) - 1;
+        SondeEntry e = entry_of((uint16_t)(journals[j][before] - '0'), (uint16_t)before);
+        for (size_t n = 0; n <= SONDE_APPEND_STORES; n++) {
+            size_t used = before + (n == SONDE_APPEND_STORES);
+            filled(due, journals[j], used);
+            filled(words, journals[j], before);
+            cut_after(words, e, n);
+            memcpy(due + 64 + 24 * used, words + 64 + 24 * used, (WORDS - 64 - 24 * used) * sizeof *due);
+            check_cut(salvages(words, due, n == 25 ? 1 : n == 26 ? 2 : 0), "salvage", journals[j], n);
+            check_cut(salvages(words, due, 0), "salvage again", journals[j], n);
+            SondeMade made = sonde_power_up(17, words, WORDS);
+            SondeAudit audit = sonde_audit(made.sonde, words, WORDS);
+            check_cut(made.number == SONDE_OK && audit.number == SONDE_OK && audit.entries == used, "power-up and audit", journals[j], n);
+        }
+    }
+}
+
+/* Chain words that were lost in any other way, in the journal "121": 1 and 3 are the entries of sensor 1, 2 is that of sensor 2. */
+static void mended(void) {
+    static uint16_t words[WORDS], due[WORDS];
+    static const struct { const char *what; uint16_t changed; Store spoilt[6]; } chains[] = {
+        {"salvage: sound", 0, {{4, 1}, {8, 3}, {5, 2}, {9, 2}, {64, 3}, {88, 0}}},
+        {"salvage: a first", 1, {{4, 0}}},
+        {"salvage: a first past the entries in use", 1, {{5, 65535}}},
+        {"salvage: a first of a sensor without entries", 1, {{6, 1}}},
+        {"salvage: a last", 1, {{8, 1}}},
+        {"salvage: a last of a sensor without entries", 1, {{11, 3}}},
+        {"salvage: a next that is lost", 1, {{64, 0}}},
+        {"salvage: a next of itself", 1, {{64, 1}}},
+        {"salvage: a next of the last entry", 1, {{112, 1}}},
+        {"salvage: a next of another's", 2, {{64, 2}, {88, 3}}},
+        {"salvage: two chains exchanged", 4, {{4, 2}, {5, 1}, {8, 2}, {9, 3}}},
+        {"salvage: lost words of the header and of entries", 6, {{4, 0}, {5, 0}, {8, 0}, {9, 0}, {64, 0}, {112, 7}}},
+        {"salvage: one of these is right", 2, {{4, 1}, {8, 0}, {64, 9}}},
+    };
+    for (size_t i = 0; i < sizeof chains / sizeof *chains; i++) {
+        filled(words, "121", 3);
+        filled(due, "121", 3);
+        for (size_t k = 0; k < 6 && chains[i].spoilt[k].at > 0; k++) words[chains[i].spoilt[k].at] = chains[i].spoilt[k].word;
+        check(salvages(words, due, chains[i].changed), chains[i].what);
+        check(salvages(words, due, 0), "salvage: twice changes nothing");
+    }
+
+    /* The entries' sensors decide: sensor 1 may have what sensor 4 has. */
+    filled(words, "14", 2);
+    filled(due, "14", 2);
+    words[88 + 1] = due[88 + 1] = 1;
+    due[7] = due[11] = 0;
+    due[8] = due[64] = 2;
+    check(salvages(words, due, 4), "salvage: an entry of another sensor goes to its chain");
+}
+
+/* What no choice of chain words makes sound, in the journal "12". */
+static const struct { const char *what; size_t length; Store fault; } faults[] = {
+    {"salvage: no words: number 8", 0, {0, 1}},
+    {"salvage: 87 words: number 8", SONDE_LEAST_WORDS - 1, {0, 1}},
+    {"salvage: another length: number 8", WORDS - 1, {0, 1}},
+    {"salvage: format 0: number 8", WORDS, {0, 0}},
+    {"salvage: format 2: number 8", WORDS, {0, 2}},
+    {"salvage: capacity 0: number 8", WORDS, {1, 0}},
+    {"salvage: capacity 2: number 8", WORDS, {1, 2}},
+    {"salvage: capacity 4: number 8", WORDS, {1, 4}},
+    {"salvage: 4 entries in use: number 8", WORDS, {2, 4}},
+    {"salvage: 65535 entries in use: number 8", WORDS, {2, 65535}},
+    {"salvage: a free entry in use: number 8", WORDS, {2, 3}},
+    {"salvage: word 3: number 8", WORDS, {3, 1}},
+    {"salvage: word 12: number 8", WORDS, {12, 1}},
+    {"salvage: word 15: number 8", WORDS, {15, 1}},
+    {"salvage: word 48: number 8", WORDS, {48, 1}},
+    {"salvage: word 63: number 8", WORDS, {63, 0x8000}},
+    {"salvage: an opening that isn't finite: number 8", WORDS, {16, 0x7F80}},
+    {"salvage: an opening out of limits: number 8", WORDS, {18, 0x4100}},
+    {"salvage: an opening's third coefficient: number 8", WORDS, {38, 0x8000}},
+    {"salvage: sensor 0: number 8", WORDS, {64 + 1, 0}},
+    {"salvage: sensor 9: number 8", WORDS, {64 + 1, 9}},
+    {"salvage: sensor 5 in the last entry: number 8", WORDS, {88 + 1, 5}},
+    {"salvage: a sensor with other limits: number 8", WORDS, {64 + 1, 2}},
+    {"salvage: method 3: number 8", WORDS, {64 + 2, 3}},
+    {"salvage: a method without points: number 8", WORDS, {64 + 2, 0}},
+    {"salvage: a coefficient: number 8", WORDS, {64 + 9, 1}},
+    {"salvage: a point that isn't used: number 8", WORDS, {64 + 16, 1}},
+    {"salvage: word 20 of an entry: number 8", WORDS, {64 + 20, 1}},
+    {"salvage: word 23 of the last entry: number 8", WORDS, {88 + 23, 1}},
+};
+
+/* Number 8 leaves every word, and the chain words with them, which are all wrong. */
+static void beyond_salvage(void) {
+    static uint16_t words[WORDS], due[WORDS];
+    for (size_t i = 0; i < sizeof faults / sizeof *faults; i++) {
+        filled(words, "12", 2);
+        for (size_t at = 4; at < 12; at++) words[at] ^= 0x8000;
+        words[64] = words[88] = 0x1234;
+        words[faults[i].fault.at] = faults[i].fault.word;
+        memcpy(due, words, sizeof due);
+        SondeSalvage s = sonde_salvage(words, faults[i].length);
+        check(s.number == SONDE_BEYOND_SALVAGE && s.changed == 0 && same_words(words, due, WORDS), faults[i].what);
+    }
+}
+
+/* A full volume of the most words and some behind them: every chain word, lost at once. */
+static void most_mended(void) {
+    static uint16_t words[SONDE_MOST_WORDS + 24], due[SONDE_MOST_WORDS + 24];
+    const size_t length = SONDE_MOST_WORDS + 24;
+    memset(words, 0xEE, sizeof words);
+    check(sonde_begin(sonde_fresh(17).sonde, words, length).number == SONDE_OK, "salvage: a volume of the most words and 24 more");
+    for (uint16_t k = 0; k < 1001; k++) sonde_append(words, length, entry_of(k % 3 + 1, k), SONDE_APPEND_STORES);
+    check(words[2] == 1000 && words[4] == 1 && words[8] == 1000 && words[11] == 0, "salvage: it takes 1000 entries and no other");
+    memcpy(due, words, sizeof due);
+    SondeSalvage s = sonde_salvage(words, length);
+    check(s.number == SONDE_OK && s.changed == 0 && same_words(words, due, length), "salvage: nothing to mend in 1000 entries");
+    for (size_t at = 4; at < 12; at++) words[at] ^= 0xFFFF;
+    for (size_t k = 0; k < 1000; k++) words[64 + 24 * k] ^= 0xFFFF;
+    s = sonde_salvage(words, length);
+    check(s.number == SONDE_OK && s.changed == 1008 && same_words(words, due, length), "salvage: all 1008 chain words mended");
+}
+
 int main(void) {
     in_rtu();
     in_ascii();
@@ -474,5 +743,12 @@ int main(void) {
     technicians();
     on_paper();
     in_rounds();
+    in_stores();
+    not_stored();
+    as_by_frames();
+    after_cuts();
+    mended();
+    beyond_salvage();
+    most_mended();
     return failed;
 }

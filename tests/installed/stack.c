@@ -1,7 +1,7 @@
 /*
  * The stack that the calls take, their arguments and results included. Each call is made on a painted stack of its own, and the paint that is gone
  * is counted: over the life of a sonde whose journal fills up to 1000 entries, with the longest read (24 registers), the longest frame and a bad
- * one, in RTU and in ASCII.
+ * one, in RTU and in ASCII; the last entry is then appended again, cut after each of its stores and salvaged.
  *
  *     stack BOUND
  *
@@ -30,6 +30,9 @@ static SondeMade made;
 static SondeFrame answer;
 static SondeAudit audit;
 static SondePrint printed;
+static SondeEntry entry;
+static size_t stores;
+static SondeSalvage salvaged;
 static uint8_t page[SONDE_MOST_PAGE_BYTES];
 static uint16_t sum;
 
@@ -58,14 +61,16 @@ static void call_frame(void) {
 }
 static void call_audit(void) { audit = sonde_audit(sonde, volume, WORDS); }
 static void call_print(void) { printed = sonde_print(volume, WORDS, page, sizeof page); }
+static void call_append(void) { sonde_append(volume, WORDS, entry, stores); }
+static void call_salvage(void) { salvaged = sonde_salvage(volume, WORDS); }
 static void call_crc_round(void) { sum = sonde_crc_round(sum, 0x3231); }
 
-enum { NOTHING, FRESH, BEGIN, POWER_UP, MEASURE, FRAME, AUDIT, PRINT, CRC_ROUND, CALLS };
+enum { NOTHING, FRESH, BEGIN, POWER_UP, MEASURE, FRAME, AUDIT, PRINT, APPEND, SALVAGE, CRC_ROUND, CALLS };
 
 static const struct { const char *name; void (*f)(void); } calls[CALLS] = {
     {"no call", call_nothing}, {"sonde_fresh", call_fresh}, {"sonde_begin", call_begin}, {"sonde_power_up", call_power_up},
     {"sonde_measure", call_measure}, {"sonde_frame", call_frame}, {"sonde_audit", call_audit}, {"sonde_print", call_print},
-    {"sonde_crc_round", call_crc_round},
+    {"sonde_append", call_append}, {"sonde_salvage", call_salvage}, {"sonde_crc_round", call_crc_round},
 };
 static size_t most[CALLS];
 
@@ -150,6 +155,29 @@ static void ask_longest(void) {
     ask_bad();
 }
 
+/* A salvage that changes so many words. */
+static void salvage(uint16_t changed) {
+    measured(SALVAGE);
+    expect(salvaged.number == SONDE_OK && salvaged.changed == changed, "a salvage");
+}
+
+/* The last of 1000 entries, all of sensor 2, is taken back; then it is cut after each of its stores, and with all of them the volume is as it was. */
+static void cut_and_salvage(void) {
+    entry = (SondeEntry){.sensor = 2, .calibration = sonde.sensors[1].setup.active.calibration};
+    volume[2] = 999;
+    salvage(2); /* the next word of entry 999, and the chain's last */
+    for (stores = 0; stores <= SONDE_APPEND_STORES; stores++) {
+        measured(APPEND);
+        expect(volume[2] == (stores < SONDE_APPEND_STORES ? 999 : 1000), "the entries in use after a cut");
+        salvage(stores == 25 ? 1 : stores == 26 ? 2 : 0);
+    }
+    measured(APPEND); /* the journal is full */
+    volume[0] = 2;
+    measured(SALVAGE);
+    expect(salvaged.number == SONDE_BEYOND_SALVAGE && salvaged.changed == 0, "a salvage of another format");
+    volume[0] = 1;
+}
+
 int main(int argc, char **argv) {
     size_t bound = argc > 1 ? strtoul(argv[1], NULL, 10) : 0, deepest = 0;
     measured(NOTHING);
@@ -166,6 +194,7 @@ int main(int argc, char **argv) {
         ask(update, sizeof update, 0x86); /* the journal is full */
         ask_longest();
     }
+    cut_and_salvage();
     measured(AUDIT);
     expect(audit.number == SONDE_OK && audit.entries == 1000, "the audit of 1000 entries");
     measured(PRINT);
