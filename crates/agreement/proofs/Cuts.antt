@@ -1,19 +1,17 @@
 -- A cut, the salvage and the power-up after it keep the invariant, and neither is refused: what a cut leaves is salvaged to the journal from before
 -- or, where the count is new, to the one from after, as a frame that isn't cut leaves it. Assumes nothing.
-use mathlib.Core.Path.{_≡_, refl, sym, ap, subst, _∙_}
+use mathlib.Core.Path.{_≡_, refl, ap, _∙_}
 use mathlib.Core.Bool.{Bool, true, false, cond}
 use mathlib.Core.List.{List, [], _∷_}
-use Prim.Native.Nat.{ℕ, zero, suc, _≤_, _<_}
+use Prim.Native.Nat.{ℕ, zero, suc, _<_}
 use native.Mathlib.Omega.{arith}
 use lib.Dec.{eqb, ltb}
 use lib.ListN.{length}
 use borrow.Author.Tests.{ltb-true, ltb-false}
 use Rattle.framing.specs.Framing.{carriedIn, bodyOf}
-use Rattle.modbus.specs.declared.Value.{Value}
 use Rattle.entries.specs.Entries.{validEntry}
 use Rattle.entries.specs.declared.Entry.{Entry}
 use Rattle.entries.proofs.Entries.{entryFits}
-use Rattle.fields.specs.declared.Field.{Field}
 use Rattle.journal.specs.Journal.{Journal, IsSensor}
 use Rattle.journal.specs.Stores.{appendsOf}
 use Rattle.journal.proofs.Holds.{Holds}
@@ -35,8 +33,8 @@ use Rattle.service.proofs.Parts.{frame-facts}
 use Rattle.service.proofs.Cuts.{cut-whole}
 use Rattle.agreement.specs.Model.{Model, modelFrame, modelCut, modelPowerUp}
 use Rattle.agreement.specs.Runs.{State, state, frameIn, salvageIn, numberOf, after, modelAfter}
-use Rattle.agreement.specs.Runs.Call.{Frame, PowerUp, Cut}
-use Rattle.agreement.specs.Accepted.{notedIn, noted}
+use Rattle.agreement.specs.Runs.Call.{Frame, Cut}
+use Rattle.agreement.specs.Accepted.{noted}
 use Rattle.agreement.proofs.Sondes.{setup-valid, setup-fits}
 use Rattle.agreement.proofs.Invariant.{Invariant}
 use Rattle.agreement.proofs.Calls.{Keeps, power-up-done, power-up-journal}

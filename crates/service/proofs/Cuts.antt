@@ -1,9 +1,9 @@
 -- A frame appends by all stores: what it leaves of the volume is what a cut behind the last store, or later, leaves. Assumes nothing.
 use mathlib.Core.Path.{_≡_, refl, sym, _∙_}
-use mathlib.Core.Bool.{Bool, true, false, cond}
+use mathlib.Core.Bool.{Bool, true, false}
 use mathlib.Core.List.{List}
 use Prim.Native.Nat.{ℕ, _≤_}
-use lib.Dec.{eqb, ltb}
+use lib.Dec.{ltb}
 use lib.ListN.{length}
 use Rattle.framing.specs.Framing.{carriedIn, bodyOf, roomIn}
 use Rattle.modbus.specs.Request.{headerOf}

@@ -9,7 +9,7 @@ use Rattle.framing.proofs.Carried.{decoded-most, carried-again, carried-most}
 use Rattle.state.specs.Sonde.{sensorAt}
 use Rattle.service.specs.Agrees.{agrees}
 use Rattle.service.specs.Frame.{planFor, arrival}
-use Rattle.service.proofs.Parts.{agrees-parts, frame-facts}
+use Rattle.service.proofs.Parts.{frame-facts}
 use Rattle.admission.specs.Steps.{numberBy}
 use Rattle.admission.proofs.Owners.{owner-below}
 use Rattle.sonde.proofs.Left.{refused-left, refused-bytes, passed, handed-on, step-bytes, nothing-left, setup-left}
