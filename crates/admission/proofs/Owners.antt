@@ -6,13 +6,13 @@ use lib.Dec.{lit≤}
 use Rattle.plans.specs.declared.Plan.{Plan}
 use Rattle.plans.specs.declared.Plan.TheVariants.{Bad, Foreign, BroadcastRead, Refused, Reading, Writing}
 use Rattle.plans.proofs.Plans.{Facts}
-use Rattle.admission.specs.Steps.{ownerOf}
+use Rattle.admission.specs.Steps.{owner_of}
 
 -- is the device or a sensor
-pub owner-below : (body : List ℕ) (p : Plan) → Facts body p → ownerOf p ≤ 4
-owner-below body Bad f = lit≤ tt
-owner-below body Foreign f = lit≤ tt
-owner-below body BroadcastRead f = lit≤ tt
-owner-below body (Refused code) f = lit≤ tt
-owner-below body (Reading start count) f = omega (arith, f.least, f.ends)
-owner-below body (Writing o x v) f = f.located.owner-most
+pub owner_below : (body : List ℕ) (p : Plan) → Facts body p → owner_of p ≤ 4
+owner_below body Bad f = lit≤ tt
+owner_below body Foreign f = lit≤ tt
+owner_below body BroadcastRead f = lit≤ tt
+owner_below body (Refused code) f = lit≤ tt
+owner_below body (Reading start count) f = omega (arith, f.least, f.ends)
+owner_below body (Writing o x v) f = f.located.owner_most

@@ -1,6 +1,6 @@
 // What a frame asks for: whether a number refuses it, its plan, and the sensor that it names.
 ghost use Rattle.std.specs.Prelude.{◌≡◌, ◌-◌, ◌<◌, ◌≤◌};
-ghost use Rattle.admission.specs.Steps.{numberBy, ownerOf, judgedOf};
+ghost use Rattle.admission.specs.Steps.{number_by, owner_of, judged_of};
 
 use modbus::Header;
 use plans::Plan;
@@ -15,7 +15,7 @@ pub struct Judged {
 
 // The number that refuses a frame of this framing with so many bytes of reply buffer, by whether the sonde and its volume agree; 0 is none.
 pub fn number_of(ascii: bool, room: usize, agreed: bool) -> u8
-    ensures { result ≡ numberBy ascii room agreed }
+    ensures { result ≡ number_by ascii room agreed }
 {
     if room < framing::room(ascii) {
         return numbers::SHORT_REPLY;
@@ -38,8 +38,8 @@ fn index(owner: u16) -> usize
 
 // The place of the sensor that a frame names; the first where it names none.
 pub fn sensor_index(judged: Judged) -> usize
-    requires { ownerOf judged.plan ≤ 4 }
-    ensures { (result ≡ ownerOf judged.plan - 1) × (result < 4) }
+    requires { owner_of judged.plan ≤ 4 }
+    ensures { (result ≡ owner_of judged.plan - 1) × (result < 4) }
 {
     let plan = judged.plan;
     match plan {
@@ -55,7 +55,7 @@ pub fn sensor_index(judged: Judged) -> usize
 
 // What the body that a frame carries asks of the sonde with this address; no bytes are a bad frame's.
 pub fn judge(own: u8, body: &[u8]) -> Judged
-    ensures { result ≡ judgedOf own body.now }
+    ensures { result ≡ judged_of own body.now }
 {
     let header = modbus::header_of(body);
     if body.len() == 0 {

@@ -8,7 +8,7 @@ use native.Mathlib.Omega.{arith}
 use borrow.Author.Tests.{eqb-true}
 use lib.Dec.{ltb, eqb}
 use lib.ListN.{length, get_or, set}
-use Rattle.words.specs.Digits.{hexDigit}
+use Rattle.words.specs.Digits.{hex_digit}
 use Rattle.ascii.specs.Ascii.{value_of}
 use Rattle.ascii.specs.Steps.{Values}
 use Rattle.ascii.proofs.Reading.{both}
@@ -32,20 +32,20 @@ at f xs t k h = from f xs 0 t k h ∙ ap f (zero-add k)
 
 -- ---- the digits
 
-abbrev pub digitTable : List ℕ
-digitTable = 48 ∷ 49 ∷ 50 ∷ 51 ∷ 52 ∷ 53 ∷ 54 ∷ 55 ∷ 56 ∷ 57 ∷ 65 ∷ 66 ∷ 67 ∷ 68 ∷ 69 ∷ 70 ∷ []
+abbrev pub digit_table : List ℕ
+digit_table = 48 ∷ 49 ∷ 50 ∷ 51 ∷ 52 ∷ 53 ∷ 54 ∷ 55 ∷ 56 ∷ 57 ∷ 65 ∷ 66 ∷ 67 ∷ 68 ∷ 69 ∷ 70 ∷ []
 
-pub digit_at : (k : ℕ) → k < 16 → get_or digitTable k 0 ≡ hexDigit k
-unfolding hexDigit
-digit_at k h = at hexDigit digitTable refl k h
+pub digit_at : (k : ℕ) → k < 16 → get_or digit_table k 0 ≡ hex_digit k
+unfolding hex_digit
+digit_at k h = at hex_digit digit_table refl k h
 
 small : (b : Bool) (k : ℕ) → k < 16 → cond b (48 + k) (55 + k) < 256
 small true k h = omega arith
 small false k h = omega arith
 
-pub digit-small : (k : ℕ) → k < 16 → get_or digitTable k 0 < 256
-unfolding hexDigit
-digit-small k h = omega (arith, digit_at k h, small (ltb k 10) k h)
+pub digit_small : (k : ℕ) → k < 16 → get_or digit_table k 0 < 256
+unfolding hex_digit
+digit_small k h = omega (arith, digit_at k h, small (ltb k 10) k h)
 
 -- ---- their values
 
@@ -54,5 +54,5 @@ abbrev pub filled : List ℕ → List ℕ → ℕ → List ℕ
 filled places table zero = table
 filled places table (suc i) = set (filled places table i) (get_or places i 0) i
 
-pub values-table : {table : List ℕ} → tabled value_of 0 table ≡ true → 256 ≤ length table → Values table
-values-table {table} t h = record { at = λ c l. at value_of table t c (omega arith) }
+pub values_table : {table : List ℕ} → tabled value_of 0 table ≡ true → 256 ≤ length table → Values table
+values_table {table} t h = record { at = λ c l. at value_of table t c (omega arith) }

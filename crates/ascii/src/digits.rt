@@ -2,8 +2,8 @@
 ghost use Rattle.std.specs.Prelude.{◌≡◌, ◌+◌, ◌*◌, ◌/◌, ◌%◌, ◌<◌, ◌≤◌, length, take};
 ghost use Rattle.std.proofs.lemmas.List.Edits.{sets};
 ghost use Rattle.words.specs.Overlay.{overlay};
-ghost use Rattle.ascii.specs.Ascii.{hexOf};
-ghost use Rattle.ascii.specs.Steps.{Values, storedOf, read_of};
+ghost use Rattle.ascii.specs.Ascii.{hex_of};
+ghost use Rattle.ascii.specs.Steps.{Values, stored_of, read_of};
 
 // The digits of 0 to 15.
 const DIGITS: [u8; 16] = *b"0123456789ABCDEF";
@@ -23,7 +23,7 @@ fn values() -> [u8; 256]
 // Spells the first n bytes of a buffer in place, from byte 1 on. The last byte goes first, so that no byte is lost.
 pub fn spell(buffer: &mut [u8], n: usize)
     requires { 2 * n + 1 ≤ length buffer.old }
-    ensures { buffer.new ≡ sets buffer.old 1 (hexOf (take n buffer.old)) }
+    ensures { buffer.new ≡ sets buffer.old 1 (hex_of (take n buffer.old)) }
 {
     let digits = DIGITS;
     let mut k = n;
@@ -40,7 +40,7 @@ pub fn spell(buffer: &mut [u8], n: usize)
 pub fn read(chars: &[u8], bytes: &mut [u8]) -> u16
     requires { (length chars.now % 2 ≡ 0) × (length chars.now / 2 ≤ length bytes.old) }
     ensures value { result ≡ read_of chars.now }
-    ensures bytes_after { bytes.new ≡ overlay (storedOf chars.now) bytes.old }
+    ensures bytes_after { bytes.new ≡ overlay (stored_of chars.now) bytes.old }
 {
     let values = values();
     let mut all: u8 = 0;

@@ -1,8 +1,8 @@
 // A frame: a colon, a body and its LRC in digits, CR, LF.
 ghost use Rattle.std.specs.Prelude.{◌≡◌, ◌+◌, ◌*◌, ◌≤◌, length, take};
 ghost use Rattle.words.specs.Overlay.{overlay};
-ghost use Rattle.ascii.specs.Ascii.{asciiFramed, enclosed as enclosedOf};
-ghost use Rattle.ascii.specs.Steps.{goodBody, decodedOver};
+ghost use Rattle.ascii.specs.Ascii.{ascii_framed, enclosed as enclosed_of};
+ghost use Rattle.ascii.specs.Steps.{good_body, decoded_over};
 
 use crate::digits::{read, spell};
 use crate::sum::lrc;
@@ -10,7 +10,7 @@ use crate::sum::lrc;
 // A colon first, CR and LF last, and an even number of characters between them.
 fn enclosed(frame: &[u8]) -> bool
     requires { 2 ≤ length frame.now }
-    ensures { result ≡ enclosedOf frame.now }
+    ensures { result ≡ enclosed_of frame.now }
 {
     let n = frame.len();
     (n % 2 == 1) & (frame[0] == 58) & (frame[n - 2] == 13) & (frame[n - 1] == 10)
@@ -19,9 +19,9 @@ fn enclosed(frame: &[u8]) -> bool
 // Decodes a frame into lent bytes, and gives the body's length: 0 for a bad frame.
 pub fn decode(frame: &[u8], bytes: &mut [u8]) -> usize
     requires { 255 ≤ length bytes.old }
-    ensures value { result ≡ length (goodBody frame.now) }
-    ensures bytes_after { take result bytes.new ≡ goodBody frame.now }
-    ensures bytes_after_2 { bytes.new ≡ decodedOver frame.now bytes.old }
+    ensures value { result ≡ length (good_body frame.now) }
+    ensures bytes_after { take result bytes.new ≡ good_body frame.now }
+    ensures bytes_after_2 { bytes.new ≡ decoded_over frame.now bytes.old }
 {
     let n = frame.len();
     if n < 9 {
@@ -45,7 +45,7 @@ pub fn decode(frame: &[u8], bytes: &mut [u8]) -> usize
 pub fn seal(buffer: &mut [u8], n: usize) -> u16
     requires { (n ≤ 254) × (2 * n + 5 ≤ length buffer.old) }
     ensures value { result ≡ 2 * n + 5 }
-    ensures buffer_after { buffer.new ≡ overlay (asciiFramed (take n buffer.old)) buffer.old }
+    ensures buffer_after { buffer.new ≡ overlay (ascii_framed (take n buffer.old)) buffer.old }
 {
     let sum = lrc(&buffer[..n]);
     buffer[n] = sum;

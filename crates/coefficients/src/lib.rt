@@ -1,7 +1,7 @@
 // The coefficients of a sensor, the limits that an update has to keep, and a calibration: coefficients and their time.
 ghost use Rattle.std.specs.Prelude.{◌≡◌};
-ghost use Rattle.floats.specs.Floats.{within as withinOf};
-ghost use Rattle.coefficients.specs.Coefficients.{allFinite, sameCoefficients, sameCalibration, calibrationOf, coefficientsOf, defaultsOf, inLimits};
+ghost use Rattle.floats.specs.Floats.{within as within_of};
+ghost use Rattle.coefficients.specs.Coefficients.{all_finite, same_coefficients, same_calibration, calibration_of, coefficients_of, defaults_of, in_limits};
 
 // Document 01: figures 1, 2 and 3.
 #[repr(C)]
@@ -25,7 +25,7 @@ pub struct Calibration {
 impl Coefficients {
     // The coefficients that a sensor has when fresh; those of sensors 1, 2 and 4 are the same.
     pub fn defaults(sensor: u16) -> Self
-        ensures { result ≡ defaultsOf sensor }
+        ensures { result ≡ defaults_of sensor }
     {
         if sensor == 3 {
             return Coefficients {
@@ -42,7 +42,7 @@ impl Coefficients {
     }
 
     pub fn is_finite(self) -> bool
-        ensures { result ≡ allFinite self }
+        ensures { result ≡ all_finite self }
     {
         floats::is_finite(self.coefficient1)
             & floats::is_finite(self.coefficient2)
@@ -51,7 +51,7 @@ impl Coefficients {
 
     // Equality in every bit.
     pub fn same_bits(self, other: Coefficients) -> bool
-        ensures { result ≡ sameCoefficients self other }
+        ensures { result ≡ same_coefficients self other }
     {
         floats::same_bits(self.coefficient1, other.coefficient1)
             & floats::same_bits(self.coefficient2, other.coefficient2)
@@ -60,7 +60,7 @@ impl Coefficients {
 
     // These coefficients, calibrated at a time.
     pub fn calibration(self, time: u32) -> Calibration
-        ensures { result ≡ calibrationOf self time }
+        ensures { result ≡ calibration_of self time }
     {
         Calibration {
             coefficient1: self.coefficient1,
@@ -73,7 +73,7 @@ impl Coefficients {
 
 impl Calibration {
     pub fn coefficients(self) -> Coefficients
-        ensures { result ≡ coefficientsOf self }
+        ensures { result ≡ coefficients_of self }
     {
         Coefficients {
             coefficient1: self.coefficient1,
@@ -84,7 +84,7 @@ impl Calibration {
 
     // Equality in every bit, the time's too.
     pub fn same_bits(self, other: Calibration) -> bool
-        ensures { result ≡ sameCalibration self other }
+        ensures { result ≡ same_calibration self other }
     {
         let mine = self.coefficients();
         let others = other.coefficients();
@@ -93,14 +93,14 @@ impl Calibration {
 }
 
 fn within(low: f32, high: f32, x: f32) -> bool
-    ensures { result ≡ withinOf low high x }
+    ensures { result ≡ within_of low high x }
 {
     (low <= x) & (x <= high)
 }
 
 // The table of limits; a number that is no sensor has none.
 pub fn in_limits(sensor: u16, c: Coefficients) -> bool
-    ensures { result ≡ inLimits sensor c }
+    ensures { result ≡ in_limits sensor c }
 {
     match sensor {
         1 => within(-100.0, 100.0, c.coefficient1)

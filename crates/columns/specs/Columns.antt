@@ -1,14 +1,14 @@
 -- Columns of characters, and lines of columns. Document 02, wish 4. Assumes nothing.
 use Rattle.std.specs.Prelude.{cond, List, [], ◌∷◌, ◌++◌, ℕ, zero, suc, ◌/◌, ◌%◌, eqb}
-use Rattle.words.specs.Digits.{hexDigit}
+use Rattle.words.specs.Digits.{hex_digit}
 
 -- the last digit of n in base b
 unfoldable pub last : ℕ → ℕ → ℕ
-last b n = hexDigit (n % b)
+last b n = hex_digit (n % b)
 
 -- the same, and a blank for 0
-unfoldable pub lastOrBlank : ℕ → ℕ → ℕ
-lastOrBlank b n = cond (eqb n 0) 32 (last b n)
+unfoldable pub last_or_blank : ℕ → ℕ → ℕ
+last_or_blank b n = cond (eqb n 0) 32 (last b n)
 
 -- w characters, from the right: mark n, then mark (n / b), and so on
 unfoldable pub cells : ℕ → (ℕ → ℕ) → ℕ → ℕ → List ℕ
@@ -18,7 +18,7 @@ cells b mark (suc w) n = cells b mark w (n / b) ++ (mark n ∷ [])
 -- "numbers right-aligned": decimal, blanks in front, in w characters; 0 is shown as 0
 unfoldable pub number : ℕ → ℕ → List ℕ
 number zero n = []
-number (suc w) n = cells 10 (lastOrBlank 10) w (n / 10) ++ (last 10 n ∷ [])
+number (suc w) n = cells 10 (last_or_blank 10) w (n / 10) ++ (last 10 n ∷ [])
 
 -- w "capital hexadecimal digits", zeros in front
 unfoldable pub hex : ℕ → ℕ → List ℕ

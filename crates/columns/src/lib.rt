@@ -1,13 +1,13 @@
 // Columns of characters, written from the right into a part of a buffer.
 ghost use Rattle.std.specs.Prelude.{◌≡◌, ◌+◌, ◌≤◌, ◌<◌, length};
 ghost use Rattle.std.proofs.lemmas.List.Edits.{sets};
-ghost use Rattle.words.specs.Digits.{hexDigit};
-ghost use Rattle.columns.specs.Columns.{last, lastOrBlank, cells, number, hex};
+ghost use Rattle.words.specs.Digits.{hex_digit};
+ghost use Rattle.columns.specs.Columns.{last, last_or_blank, cells, number, hex};
 
 // The character of a digit.
 fn digit(d: u32) -> u8
     requires { d < 16 }
-    ensures { result ≡ hexDigit d }
+    ensures { result ≡ hex_digit d }
 {
     if d < 10 {
         return 48 + d as u8;
@@ -24,7 +24,7 @@ pub fn last_digit(n: u32) -> u8
 
 // The same, and a blank for 0.
 fn last_or_blank(n: u32) -> u8
-    ensures { result ≡ lastOrBlank 10 n }
+    ensures { result ≡ last_or_blank 10 n }
 {
     if n == 0 {
         return 32;
@@ -35,7 +35,7 @@ fn last_or_blank(n: u32) -> u8
 // All of a number but its last digit, with blanks in front.
 fn put_rest(buffer: &mut [u8], at: usize, width: usize, n: u32)
     requires { at + width ≤ length buffer.old }
-    ensures { buffer.new ≡ sets buffer.old at (cells 10 (lastOrBlank 10) width n) }
+    ensures { buffer.new ≡ sets buffer.old at (cells 10 (last_or_blank 10) width n) }
 {
     let mut left = width;
     let mut rest = n;

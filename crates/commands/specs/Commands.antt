@@ -1,13 +1,13 @@
 -- The commands of a calibration. One definition for the frame call and for the control book. Document 01, "Calibration", and the codes of
 -- "What is sent back": 0x92, 0x84, 0x97, 0xC0 in that order. Assumes nothing.
 use Rattle.std.specs.Prelude.{Bool, true, false, cond, List, [], ◌∷◌, ℕ, eqb, ltb}
-use Rattle.methods.specs.Methods.{methodOf, judgedOf, code_of as verdictCode}
+use Rattle.methods.specs.Methods.{method_of, judged_of, code_of as verdict_code}
 use Rattle.methods.specs.declared.Method.{Method}
 use Rattle.methods.specs.declared.Verdict.{Verdict}
 use Rattle.methods.specs.declared.Verdict.TheVariants.{Accepted, OutsideLimits, NotFinite, Undefined}
 use Rattle.entries.specs.Entries.{entry_of}
 use Rattle.entries.specs.declared.Entry.{Entry}
-use Rattle.sensors.specs.Changes.{withTrial, restarted, calibratedAt}
+use Rattle.sensors.specs.Changes.{with_trial, restarted, calibrated_at}
 use Rattle.sensors.specs.declared.Setup.{Setup}
 use Rattle.registers.specs.declared.Device.{Device}
 use Rattle.commands.specs.declared.Context.{Context}
@@ -34,47 +34,47 @@ code_of (Technician n) = 0
 
 -- the setup that an answer leaves, s being the one before; demand 1: "a code changes only the message counters", with the one exception of
 -- document 02, wish 2: "an update that is refused for its limits alone puts the candidate in the trial figures"
-abbrev pub setupAfter : Setup → Written → Setup
-setupAfter s (Refused code) = s
-setupAfter s (Failed t) = t
-setupAfter s (Stored t) = t
-setupAfter s (Updated t e) = t
-setupAfter s (Technician n) = s
+abbrev pub setup_after : Setup → Written → Setup
+setup_after s (Refused code) = s
+setup_after s (Failed t) = t
+setup_after s (Stored t) = t
+setup_after s (Updated t e) = t
+setup_after s (Technician n) = s
 
 -- the technician's number that it leaves, n being the one before
-abbrev pub technicianAfter : ℕ → Written → ℕ
-technicianAfter n (Refused code) = n
-technicianAfter n (Failed t) = n
-technicianAfter n (Stored t) = n
-technicianAfter n (Updated t e) = n
-technicianAfter n (Technician m) = m
+abbrev pub technician_after : ℕ → Written → ℕ
+technician_after n (Refused code) = n
+technician_after n (Failed t) = n
+technician_after n (Stored t) = n
+technician_after n (Updated t e) = n
+technician_after n (Technician m) = m
 
 -- the entries that it appends
-abbrev pub entriesOf : Written → List Entry
-entriesOf (Refused code) = []
-entriesOf (Failed t) = []
-entriesOf (Stored t) = []
-entriesOf (Updated t e) = e ∷ []
-entriesOf (Technician n) = []
+abbrev pub entries_of : Written → List Entry
+entries_of (Refused code) = []
+entries_of (Failed t) = []
+entries_of (Stored t) = []
+entries_of (Updated t e) = e ∷ []
+entries_of (Technician n) = []
 
 -- ---- a command
 
 -- the method of an update: its number, the trial coefficients and the points are the setup's
-abbrev pub methodSet : Setup → Method
-methodSet s = methodOf s.procedure.method s.procedure.trial s.procedure.points
+abbrev pub method_set : Setup → Method
+method_set s = method_of s.procedure.method s.procedure.trial s.procedure.points
 
 -- "A full journal is 0xC0. Else .. one entry is appended"; a candidate that isn't accepted is 0x97, before the journal's room is asked for. Document
 -- 02, wish 2: one refused for its limits alone is kept, "Equal points and results that aren't finite still change nothing"
-abbrev pub judgedUpdate : ℕ → Setup → Context → Verdict → Written
-judgedUpdate sensor s context (Accepted c) =
-    cond context.spare (Updated (calibratedAt s c context.clock) (entry_of sensor (methodSet s) c context.clock context.technician)) (Refused 0xC0)
-judgedUpdate sensor s context (OutsideLimits c) = Failed (withTrial s c)
-judgedUpdate sensor s context NotFinite = Refused (verdictCode NotFinite)
-judgedUpdate sensor s context Undefined = Refused (verdictCode Undefined)
+abbrev pub judged_update : ℕ → Setup → Context → Verdict → Written
+judged_update sensor s context (Accepted c) =
+    cond context.spare (Updated (calibrated_at s c context.clock) (entry_of sensor (method_set s) c context.clock context.technician)) (Refused 0xC0)
+judged_update sensor s context (OutsideLimits c) = Failed (with_trial s c)
+judged_update sensor s context NotFinite = Refused (verdict_code NotFinite)
+judged_update sensor s context Undefined = Refused (verdict_code Undefined)
 
 -- "0xE001 (update): mode off is 0x92"
 unfoldable pub updated : ℕ → Setup → Context → Written
-updated sensor s context = cond s.procedure.calibrating (judgedUpdate sensor s context (judgedOf sensor (methodSet s))) (Refused 0x92)
+updated sensor s context = cond s.procedure.calibrating (judged_update sensor s context (judged_of sensor (method_set s))) (Refused 0x92)
 
 -- "Command 0xE000, mode off: mode on ..; Mode on: accepted, nothing changes", "0xE002: mode off ..; Mode off already: accepted, nothing changes";
 -- a value not listed is 0x84
@@ -89,26 +89,26 @@ commanded sensor s value context =
 
 -- document 02, wish 2: "an update that is refused for its limits alone puts the candidate in the trial figures. Equal points and results that aren't
 -- finite still change nothing"; nor does a full journal (0xC0)
-abbrev pub triedBy : Setup → Verdict → Setup
-triedBy s (Accepted c) = s
-triedBy s (OutsideLimits c) = withTrial s c
-triedBy s NotFinite = s
-triedBy s Undefined = s
+abbrev pub tried_by : Setup → Verdict → Setup
+tried_by s (Accepted c) = s
+tried_by s (OutsideLimits c) = with_trial s c
+tried_by s NotFinite = s
+tried_by s Undefined = s
 
 -- the setup that a refused update leaves; mode off (0x92) changes nothing
-unfoldable pub refusedUpdate : ℕ → Setup → Setup
-refusedUpdate sensor s = cond s.procedure.calibrating (triedBy s (judgedOf sensor (methodSet s))) s
+unfoldable pub refused_update : ℕ → Setup → Setup
+refused_update sensor s = cond s.procedure.calibrating (tried_by s (judged_of sensor (method_set s))) s
 
 -- ---- an accepted calibration
 
 -- document 01: "An accepted calibration is a frame .. that writes 0xE001 to a command register and meets no refusal below": the entry of such an
 -- update, none where mode is off (0x92), the candidate isn't accepted (0x97) or the journal is full (0xC0). Document 02, wish 3: it "carries the
 -- number that stood when it was accepted"
-abbrev pub acceptedBy : ℕ → Setup → Context → Verdict → List Entry
-acceptedBy sensor s context (Accepted c) = cond context.spare (entry_of sensor (methodSet s) c context.clock context.technician ∷ []) []
-acceptedBy sensor s context (OutsideLimits c) = []
-acceptedBy sensor s context NotFinite = []
-acceptedBy sensor s context Undefined = []
+abbrev pub accepted_by : ℕ → Setup → Context → Verdict → List Entry
+accepted_by sensor s context (Accepted c) = cond context.spare (entry_of sensor (method_set s) c context.clock context.technician ∷ []) []
+accepted_by sensor s context (OutsideLimits c) = []
+accepted_by sensor s context NotFinite = []
+accepted_by sensor s context Undefined = []
 
-unfoldable pub acceptedUpdate : ℕ → Setup → Context → List Entry
-acceptedUpdate sensor s context = cond s.procedure.calibrating (acceptedBy sensor s context (judgedOf sensor (methodSet s))) []
+unfoldable pub accepted_update : ℕ → Setup → Context → List Entry
+accepted_update sensor s context = cond s.procedure.calibrating (accepted_by sensor s context (judged_of sensor (method_set s))) []

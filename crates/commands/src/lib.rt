@@ -1,7 +1,7 @@
 // The commands of a calibration, and what a write answers: refused by a code, the setup that a failed update leaves, the new setup, for an accepted
 // update the new setup and the entry to append, or the device's new technician number.
 ghost use Rattle.std.specs.Prelude.{◌≡◌};
-ghost use Rattle.commands.specs.Commands.{context_of, updated, commanded, code_of, setupAfter, technicianAfter};
+ghost use Rattle.commands.specs.Commands.{context_of, updated, commanded, code_of, setup_after, technician_after};
 
 use entries::{Entry, entry_of};
 use methods::{Verdict, judge, method_of};
@@ -54,7 +54,7 @@ pub fn code_of(w: Written) -> u8
 
 // The setup that an answer leaves of the one before.
 pub fn setup_after(w: Written, s: Setup) -> Setup
-    ensures { result ≡ setupAfter s w }
+    ensures { result ≡ setup_after s w }
 {
     match w {
         Written::Refused(_) => s,
@@ -67,7 +67,7 @@ pub fn setup_after(w: Written, s: Setup) -> Setup
 
 // The technician's number that an answer leaves of the one before.
 pub fn technician_after(w: Written, technician: u16) -> u16
-    ensures { result ≡ technicianAfter technician w }
+    ensures { result ≡ technician_after technician w }
 {
     match w {
         Written::Technician(n) => n,

@@ -2,108 +2,108 @@
 use mathlib.Core.Path.{refl}
 use lib.Ieee.{of_bits, to_bits, sub, mul, div, le}
 use Rattle.words.specs.Bytes.{bytes_of}
-use Rattle.words.specs.Mask.{maskedOf}
-use Rattle.rtu.specs.Crc.{crcBit, crcBits, crcByte, crcFrom, crcOf}
+use Rattle.words.specs.Mask.{masked_of}
+use Rattle.rtu.specs.Crc.{crc_bit, crc_bits, crc_byte, crc_from, crc_of}
 use Rattle.words.specs.Overlay.{overlay}
-use Rattle.rtu.specs.Frame.{checksumOf, framed, body_of, isGood}
-use Rattle.words.specs.Digits.{hexDigit}
-use Rattle.ascii.specs.Ascii.{sum_of, lrcOf, value_of, digits, hexOf, spelt, asciiFramed, charsOf, decodedBytes, asciiBody, enclosed, checked, asciiGood}
-use Rattle.framing.specs.Framing.{carriedIn, framedIn, roomIn}
-use Rattle.modbus.specs.Request.{read_of, writeOneOf, writeManyOf, writeMaskOf, requestOf}
-use Rattle.replies.specs.Reply.{read_body, writtenBody, markedOf, exceptionBody, replyOf}
-use Rattle.floats.specs.Floats.{near, nearMinus, finite, float_of, high_word, low_word, sameBits, isPlusZero}
-use Rattle.coefficients.specs.Coefficients.{allFinite, sameCoefficients, sameCalibration, defaultsOf, inLimits}
-use Rattle.methods.specs.Methods.{methodOf, candidateOf, verdictOf, judgedOf}
-use Rattle.entries.specs.Entries.{validCalibration, methodAllowed, pointsFinite, samePoints, validEntry, replacedBy}
-use Rattle.journal.specs.Words.{capacityOf, entryWords, numberAt, float_at, entry_at}
+use Rattle.rtu.specs.Frame.{checksum_of, framed, body_of, is_good}
+use Rattle.words.specs.Digits.{hex_digit}
+use Rattle.ascii.specs.Ascii.{sum_of, lrc_of, value_of, digits, hex_of, spelt, ascii_framed, chars_of, decoded_bytes, ascii_body, enclosed, checked, ascii_good}
+use Rattle.framing.specs.Framing.{carried_in, framed_in, room_in}
+use Rattle.modbus.specs.Request.{read_of, write_one_of, write_many_of, write_mask_of, request_of}
+use Rattle.replies.specs.Reply.{read_body, written_body, marked_of, exception_body, reply_of}
+use Rattle.floats.specs.Floats.{near, near_minus, finite, float_of, high_word, low_word, same_bits, is_plus_zero}
+use Rattle.coefficients.specs.Coefficients.{all_finite, same_coefficients, same_calibration, defaults_of, in_limits}
+use Rattle.methods.specs.Methods.{method_of, candidate_of, verdict_of, judged_of}
+use Rattle.entries.specs.Entries.{valid_calibration, method_allowed, points_finite, same_points, valid_entry, replaced_by}
+use Rattle.journal.specs.Words.{capacity_of, entry_words, number_at, float_at, entry_at}
 use Rattle.journal.specs.Layout.{header}
-use Rattle.journal.specs.Stores.{beginWords, stores_of, spareFor, appendUpTo}
-use Rattle.journal.specs.Valid.{validHeader, openingAt, validOpenings, validEntryAt, chainOf, validLink, validChain, validChains, validEntries, valid}
+use Rattle.journal.specs.Stores.{begin_words, stores_of, spare_for, append_up_to}
+use Rattle.journal.specs.Valid.{valid_header, opening_at, valid_openings, valid_entry_at, chain_of, valid_link, valid_chain, valid_chains, valid_entries, valid}
 use Rattle.journal.specs.Journal.{on, firsts, lasts}
-use Rattle.recovery.specs.Salvage.{relinked, salvageOf}
-use Rattle.journal.specs.Replay.{replayOf, replays}
-use Rattle.parameters.specs.Parameters.{id_of, defaultUnits, unitsAllowed, levelAllowed}
-use Rattle.fields.specs.Fields.{ownerBit, owns, holds, exactly, field_at, wholeField, span_of}
-use Rattle.sensors.specs.Sensors.{freshParameter, freshParameters, freshSetup, freshSensor, unitsValid, levelValid, validParameter, validParameters, validProcedure, validSetup, validSensor}
-use Rattle.sensors.specs.Changes.{newProcedure, restarted, calibratedAt, sensorWithSetup}
-use Rattle.registers.specs.Registers.{mode_of, shownCoefficients, coefficientRegister, headRegister, sensorRegister, deviceRegister, registerOf}
+use Rattle.recovery.specs.Salvage.{relinked, salvage_of}
+use Rattle.journal.specs.Replay.{replay_of, replays}
+use Rattle.parameters.specs.Parameters.{id_of, default_units, units_allowed, level_allowed}
+use Rattle.fields.specs.Fields.{owner_bit, owns, holds, exactly, field_at, whole_field, span_of}
+use Rattle.sensors.specs.Sensors.{fresh_parameter, fresh_parameters, fresh_setup, fresh_sensor, units_valid, level_valid, valid_parameter, valid_parameters, valid_procedure, valid_setup, valid_sensor}
+use Rattle.sensors.specs.Changes.{new_procedure, restarted, calibrated_at, sensor_with_setup}
+use Rattle.registers.specs.Registers.{mode_of, shown_coefficients, coefficient_register, head_register, sensor_register, device_register, register_of}
 use Rattle.commands.specs.Commands.{updated, commanded}
-use Rattle.writes.specs.Writes.{methodWritten, pointAt, withFloat, floatWritten, fieldWritten, writeOf, deviceWritten, writeTo}
-use Rattle.plans.specs.Plans.{target_of, readPlan, plan_of}
+use Rattle.writes.specs.Writes.{method_written, point_at, with_float, float_written, field_written, write_of, device_written, write_to}
+use Rattle.plans.specs.Plans.{target_of, read_plan, plan_of}
 use Rattle.audit.specs.Audit.{replayed}
-use Rattle.state.specs.Sonde.{freshCounters, incremented, freshSonde, poweredSonde, sensorAt, setupAt, withSensor, withSetup, withTechnician, countedBy, addressValid, validSonde}
-use Rattle.journal.specs.Contents.{journalOf}
-use Rattle.columns.specs.Columns.{last, lastOrBlank, cells, number, hex, behind, spaced}
+use Rattle.state.specs.Sonde.{fresh_counters, incremented, fresh_sonde, powered_sonde, sensor_at, setup_at, with_sensor, with_setup, with_technician, counted_by, address_valid, valid_sonde}
+use Rattle.journal.specs.Contents.{journal_of}
+use Rattle.columns.specs.Columns.{last, last_or_blank, cells, number, hex, behind, spaced}
 use Rattle.columns.specs.Text.{characters}
-use Rattle.lines.specs.Lines.{columnsOf, line_of, lines_of}
+use Rattle.lines.specs.Lines.{columns_of, line_of, lines_of}
 use Rattle.page.specs.Page.{page_of}
-use Rattle.page.specs.Print.{printedOn, printOf}
-use Rattle.service.specs.Agrees.{openings, sameCalibrations, journalAgrees, agrees}
-use Rattle.service.specs.Calls.{beginOf, powerUpOf}
-use Rattle.service.specs.Reads.{deviceOf, registerAt, readingBody}
-use Rattle.service.specs.Frame.{sent, writeBody, written_by, sondeAfter, carriedOut, answer_of, left, frame_of, cut_of}
-use Rattle.conformance.specs.Cases.{Cases, worked, told, begunWith, beginTold, asked, next, next_at, nextAscii, frameTold, inMode, tenAtEight, failed, calibrated, onePoint, printTold, examplePage, salvagedAt, salvageTold}
+use Rattle.page.specs.Print.{printed_on, print_of}
+use Rattle.service.specs.Agrees.{openings, same_calibrations, journal_agrees, agrees}
+use Rattle.service.specs.Calls.{begin_of, power_up_of}
+use Rattle.service.specs.Reads.{device_of, register_at, reading_body}
+use Rattle.service.specs.Frame.{sent, write_body, written_by, sonde_after, carried_out, answer_of, left, frame_of, cut_of}
+use Rattle.conformance.specs.Cases.{Cases, worked, told, begun_with, begin_told, asked, next, next_at, next_ascii, frame_told, in_mode, ten_at_eight, failed, calibrated, one_point, print_told, example_page, salvaged_at, salvage_told}
 
 pub cases : Cases
-unfolding crcBit crcBits crcByte crcFrom crcOf checksumOf framed body_of isGood overlay
-    sum_of lrcOf hexDigit value_of digits hexOf spelt asciiFramed charsOf decodedBytes asciiBody enclosed checked asciiGood carriedIn framedIn roomIn
-    bytes_of read_of writeOneOf writeManyOf writeMaskOf requestOf maskedOf read_body writtenBody markedOf exceptionBody
-    of_bits to_bits sub mul div le near nearMinus finite float_of high_word low_word sameBits isPlusZero
-    allFinite sameCoefficients sameCalibration defaultsOf inLimits methodOf candidateOf verdictOf judgedOf
-    methodAllowed pointsFinite samePoints validEntry replacedBy capacityOf entryWords numberAt float_at entry_at validCalibration header beginWords stores_of spareFor appendUpTo
-    validHeader openingAt validOpenings validEntryAt chainOf validLink validChain validChains validEntries valid replayOf replays
-    id_of defaultUnits unitsAllowed levelAllowed ownerBit owns holds exactly field_at wholeField span_of
-    newProcedure freshParameter freshParameters freshSetup freshSensor unitsValid levelValid validParameter validParameters validProcedure validSetup validSensor restarted calibratedAt sensorWithSetup
-    mode_of shownCoefficients coefficientRegister headRegister sensorRegister deviceRegister registerOf updated commanded
-    methodWritten pointAt withFloat floatWritten fieldWritten writeOf deviceWritten writeTo target_of readPlan plan_of
-    freshCounters incremented freshSonde poweredSonde replayed sensorAt setupAt withSensor withSetup withTechnician countedBy addressValid validSonde
-    openings sameCalibrations journalAgrees agrees beginOf powerUpOf deviceOf registerAt readingBody sent writeBody written_by sondeAfter carriedOut answer_of replyOf left frame_of cut_of on firsts lasts relinked salvageOf
-    journalOf last lastOrBlank cells number hex behind spaced characters columnsOf line_of lines_of page_of printedOn printOf
-    worked told begunWith beginTold asked next next_at nextAscii frameTold inMode tenAtEight failed calibrated onePoint printTold examplePage salvagedAt salvageTold
+unfolding crc_bit crc_bits crc_byte crc_from crc_of checksum_of framed body_of is_good overlay
+    sum_of lrc_of hex_digit value_of digits hex_of spelt ascii_framed chars_of decoded_bytes ascii_body enclosed checked ascii_good carried_in framed_in room_in
+    bytes_of read_of write_one_of write_many_of write_mask_of request_of masked_of read_body written_body marked_of exception_body
+    of_bits to_bits sub mul div le near near_minus finite float_of high_word low_word same_bits is_plus_zero
+    all_finite same_coefficients same_calibration defaults_of in_limits method_of candidate_of verdict_of judged_of
+    method_allowed points_finite same_points valid_entry replaced_by capacity_of entry_words number_at float_at entry_at valid_calibration header begin_words stores_of spare_for append_up_to
+    valid_header opening_at valid_openings valid_entry_at chain_of valid_link valid_chain valid_chains valid_entries valid replay_of replays
+    id_of default_units units_allowed level_allowed owner_bit owns holds exactly field_at whole_field span_of
+    new_procedure fresh_parameter fresh_parameters fresh_setup fresh_sensor units_valid level_valid valid_parameter valid_parameters valid_procedure valid_setup valid_sensor restarted calibrated_at sensor_with_setup
+    mode_of shown_coefficients coefficient_register head_register sensor_register device_register register_of updated commanded
+    method_written point_at with_float float_written field_written write_of device_written write_to target_of read_plan plan_of
+    fresh_counters incremented fresh_sonde powered_sonde replayed sensor_at setup_at with_sensor with_setup with_technician counted_by address_valid valid_sonde
+    openings same_calibrations journal_agrees agrees begin_of power_up_of device_of register_at reading_body sent write_body written_by sonde_after carried_out answer_of reply_of left frame_of cut_of on firsts lasts relinked salvage_of
+    journal_of last last_or_blank cells number hex behind spaced characters columns_of line_of lines_of page_of printed_on print_of
+    worked told begun_with begin_told asked next next_at next_ascii frame_told in_mode ten_at_eight failed calibrated one_point print_told example_page salvaged_at salvage_told
 cases =
     record {
-      crc-of-digits = refl;
-      two-points = refl;
-      slope-accepted = refl;
-      slope-worked = refl;
-      slope-refused = refl;
-      at-the-limit = refl;
-      past-the-limit = refl;
-      one-point = refl;
-      minus-zero = refl;
-      mask-updates = refl;
-      one-entry-fits = refl;
+      crc_of_digits = refl;
+      two_points_holds = refl;
+      slope_accepted = refl;
+      slope_worked = refl;
+      slope_refused = refl;
+      at_the_limit = refl;
+      past_the_limit = refl;
+      one_point_holds = refl;
+      minus_zero = refl;
+      mask_updates = refl;
+      one_entry_fits = refl;
       too_short = refl;
       last_entry = refl;
-      journal-full = refl;
-      ascii-updates = refl;
-      ascii-full = refl;
-      full-after-ascii = refl;
-      small-digits = refl;
-      small-counted = refl;
-      slope-failed = refl;
-      slope-shown = refl;
-      slope-kept = refl;
-      slope-corrected = refl;
-      equal-failed = refl;
-      equal-kept = refl;
-      technician-written = refl;
-      technician-masked = refl;
-      technician-for-all = refl;
-      technician-mismatch = refl;
-      technician-gap = refl;
-      technician-journalled = refl;
-      technician-not-given = refl;
-      technician-cleared = refl;
-      technician-kept = refl;
-      page-printed = refl;
-      page-longer = refl;
-      page-short = refl;
-      page-empty = refl;
-      page-unsound = refl;
-      cut-at-words = refl;
-      cut-at-link = refl;
-      cut-at-last = refl;
-      cut-at-count = refl;
-      cut-beyond = refl;
+      journal_full = refl;
+      ascii_updates = refl;
+      ascii_full = refl;
+      full_after_ascii = refl;
+      small_digits = refl;
+      small_counted = refl;
+      slope_failed = refl;
+      slope_shown = refl;
+      slope_kept = refl;
+      slope_corrected = refl;
+      equal_failed = refl;
+      equal_kept = refl;
+      technician_written = refl;
+      technician_masked_holds = refl;
+      technician_for_all_holds = refl;
+      technician_mismatch = refl;
+      technician_gap = refl;
+      technician_journalled = refl;
+      technician_not_given = refl;
+      technician_cleared = refl;
+      technician_kept = refl;
+      page_printed = refl;
+      page_longer = refl;
+      page_short = refl;
+      page_empty = refl;
+      page_unsound = refl;
+      cut_at_words = refl;
+      cut_at_link = refl;
+      cut_at_last = refl;
+      cut_at_count = refl;
+      cut_beyond = refl;
     }

@@ -1,15 +1,15 @@
 -- What comes of a frame as the code hands it on: how it counts, the reply's body, and what it changes of the sonde and of the volume. No reader
--- has to believe these definitions: `steps-left` (frames/proofs/Steps) says that they leave what the definition of the frame call does.
+-- has to believe these definitions: `steps_left` (frames/proofs/Steps) says that they leave what the definition of the frame call does.
 -- Assumes nothing.
 use Rattle.std.specs.Prelude.{List, ℕ, length}
-use Rattle.journal.specs.Stores.{appendsOf}
+use Rattle.journal.specs.Stores.{appends_of}
 use Rattle.sensors.specs.declared.Sensor.{Sensor}
 use Rattle.registers.specs.declared.Device.{Device}
 use Rattle.modbus.specs.declared.Header.{Header}
-use Rattle.commands.specs.Commands.{code_of, setupAfter, technicianAfter, entriesOf}
+use Rattle.commands.specs.Commands.{code_of, setup_after, technician_after, entries_of}
 use Rattle.commands.specs.declared.Written.{Written}
 use Rattle.state.specs.declared.Event.{Event}
-use Rattle.service.specs.Frame.{eventOf, writeBody}
+use Rattle.service.specs.Frame.{event_of, write_body}
 use Rattle.execution.specs.declared.Change.{Change}
 use Rattle.execution.specs.declared.Change.TheVariants.{Setup as Changed}
 use Rattle.execution.specs.declared.Effect.{Effect}
@@ -29,7 +29,7 @@ abbrev pub effect_of : Step → Effect
 effect_of x = record { event = x.event; size = length x.body; change = x.change; technician = x.technician }
 
 -- a write's, by the values of the device and of the sensor that it names
-abbrev pub writeStep : Header → List ℕ → List ℕ → Device → Sensor → Written → Step
-writeStep h body w e s y =
-    step (eventOf (code_of y)) (writeBody h body (code_of y)) (Changed (setupAfter s.setup y)) (technicianAfter e.technician y)
-    (appendsOf 27 w (entriesOf y))
+abbrev pub write_step : Header → List ℕ → List ℕ → Device → Sensor → Written → Step
+write_step h body w e s y =
+    step (event_of (code_of y)) (write_body h body (code_of y)) (Changed (setup_after s.setup y)) (technician_after e.technician y)
+    (appends_of 27 w (entries_of y))

@@ -32,11 +32,11 @@ below t zero = true
 below t (suc n) = t n && below t n
 
 -- so a number below the bound does
-pub at-number : (t : ℕ → Bool) (n : ℕ) → below t n ≡ true → (i : ℕ) → i < n → t i ≡ true
-at-number t zero e i h = absurd (not-suc-le-zero h)
-at-number t (suc n) e i h =
+pub at_number : (t : ℕ → Bool) (n : ℕ) → below t n ≡ true → (i : ℕ) → i < n → t i ≡ true
+at_number t zero e i h = absurd (not-suc-le-zero h)
+at_number t (suc n) e i h =
     let p = both (t n) (below t n) e in
-    go (eqb i n) refl p.0 (λ k. at-number t n p.1 i k)
+    go (eqb i n) refl p.0 (λ k. at_number t n p.1 i k)
   where
     go : (b : Bool) → eqb i n ≡ b → t n ≡ true → (i < n → t i ≡ true) → t i ≡ true
     go true q e rest = rw (eqb-true i n q) e
@@ -47,7 +47,7 @@ pub everywhere : (t : ℕ → Bool) (n : ℕ) → below t n ≡ true → ((i : �
 everywhere t n e rest i = go (ltb i n) refl
   where
     go : (b : Bool) → ltb i n ≡ b → t i ≡ true
-    go true q = at-number t n e i (ltb-true i n q)
+    go true q = at_number t n e i (ltb-true i n q)
     go false q = rest i (ltb-false i n q)
 
 -- ---- the row that is found
@@ -69,9 +69,9 @@ first_passes t u (g ∷ fs) h f e = go (t g) refl e (both (u g) (every u fs) h) 
     go false q e p rest = rest p.1 e
 
 -- where a row is found, one is found by any test that it passes
-pub also-found : (t u : Field → Bool) (fs : List Field) (f : Field) → first_of t fs ≡ Row f → u f ≡ true → found (first_of u fs) ≡ true
-also-found t u [] f e h = absurd (absent e)
-also-found t u (g ∷ fs) f e h = go (t g) (u g) refl e (also-found t u fs f)
+pub also_found : (t u : Field → Bool) (fs : List Field) (f : Field) → first_of t fs ≡ Row f → u f ≡ true → found (first_of u fs) ≡ true
+also_found t u [] f e h = absurd (absent e)
+also_found t u (g ∷ fs) f e h = go (t g) (u g) refl e (also_found t u fs f)
   where
     go : (b c : Bool) → u g ≡ c → cond b (Row g) (first_of t fs) ≡ Row f → (first_of t fs ≡ Row f → u f ≡ true → found (first_of u fs) ≡ true)
         → found (cond c (Row g) (first_of u fs)) ≡ true

@@ -8,25 +8,25 @@ use native.Mathlib.Omega.{arith}
 use lib.Bits.{and_zero_r}
 use lib.Dec.{eqb, leb, ltb}
 use borrow.Author.Tests.{eqb-true, eq-eqb, ne_eqb, leb-true, ltb-true, ltb-false, le-ltb}
-use Rattle.floats.proofs.Bools.{both, beq-true}
+use Rattle.floats.proofs.Bools.{both, beq_true}
 use Rattle.fields.specs.declared.Field.{Field}
 use Rattle.fields.specs.Fields.{Found}
 use Rattle.fields.specs.Fields.Found.{Row, Absent}
-use Rattle.fields.specs.Fields.{field, fields, ownerBit, owns, holds, exactly, field_at, found, wholeField}
-use Rattle.fields.specs.Map.{inMap}
-use Rattle.fields.proofs.Computed.{given, every, below, at-number, everywhere, first_passes, also-found, none_found}
+use Rattle.fields.specs.Fields.{field, fields, owner_bit, owns, holds, exactly, field_at, found, whole_field}
+use Rattle.fields.specs.Map.{in_map}
+use Rattle.fields.proofs.Computed.{given, every, below, at_number, everywhere, first_passes, also_found, none_found}
 
 -- ---- owners
 
 -- only the device and sensors 1 to 4 own fields
 pub unowned : (f : Field) (owner : ℕ) → 5 ≤ owner → owns f owner ≡ false
-unfolding owns ownerBit
+unfolding owns owner_bit
 unowned f owner h =
     simp (ne_eqb owner 0 (λ e. omega arith), ne_eqb owner 1 (λ e. omega arith), ne_eqb owner 2 (λ e. omega arith), ne_eqb owner 3 (λ e. omega arith), ne_eqb owner 4 (λ e. omega arith), and_zero_r)
 
 -- so an owner is 0 to 4
-pub owner-below : (f : Field) (owner : ℕ) → owns f owner ≡ true → owner < 5
-owner-below f owner o = go (ltb owner 5) refl
+pub owner_below : (f : Field) (owner : ℕ) → owns f owner ≡ true → owner < 5
+owner_below f owner o = go (ltb owner 5) refl
   where
     go : (b : Bool) → ltb owner 5 ≡ b → owner < 5
     go true q = ltb-true owner 5 q
@@ -45,9 +45,9 @@ past r h = none_found _ fields (λ f. unheld f (r / 100) (r % 100) (omega arith)
 -- ---- the row of a register
 
 -- a test that every row of the table passes is passed by the row of a register
-pub found-test : (t : Field → Bool) → every t fields ≡ true → (r : ℕ) (f : Field) → field_at r ≡ Row f → t f ≡ true
+pub found_test : (t : Field → Bool) → every t fields ≡ true → (r : ℕ) (f : Field) → field_at r ≡ Row f → t f ≡ true
 unfolding field_at
-found-test t h r f e = (first_passes (λ g. holds g (r / 100) (r % 100)) t fields h f e).1
+found_test t h r f e = (first_passes (λ g. holds g (r / 100) (r % 100)) t fields h f e).1
 
 -- the register at an offset of an owner is one of a field's words
 pub record Covered (f : Field) (owner offset : ℕ) : Type 0 where
@@ -56,17 +56,17 @@ pub record Covered (f : Field) (owner offset : ℕ) : Type 0 where
   pub within : offset < f.offset + f.words
 
 -- what `holds` says, in parts
-pub held-parts : (f : Field) (owner offset : ℕ) → holds f owner offset ≡ true → Covered f owner offset
+pub held_parts : (f : Field) (owner offset : ℕ) → holds f owner offset ≡ true → Covered f owner offset
 unfolding holds
-held-parts f owner offset e =
+held_parts f owner offset e =
     let p = both (owns f owner && leb f.offset offset) (ltb offset (f.offset + f.words)) e in
     let q = both (owns f owner) (leb f.offset offset) p.0 in
     record { owned = q.0; from = leb-true _ _ q.1; within = ltb-true _ _ p.1 }
 
 -- the row of a register owns it and covers its offset
-pub found-covered : (r : ℕ) (f : Field) → field_at r ≡ Row f → Covered f (r / 100) (r % 100)
+pub found_covered : (r : ℕ) (f : Field) → field_at r ≡ Row f → Covered f (r / 100) (r % 100)
 unfolding field_at
-found-covered r f e = held-parts f (r / 100) (r % 100) (first_passes (λ g. holds g (r / 100) (r % 100)) (λ g. true) fields refl f e).0
+found_covered r f e = held_parts f (r / 100) (r % 100) (first_passes (λ g. holds g (r / 100) (r % 100)) (λ g. true) fields refl f e).0
 
 -- ---- the shape of a row
 
@@ -79,8 +79,8 @@ pub record Shape (f : Field) : Type 0 where
 abbrev pub shaped : Field → Bool
 shaped f = (leb 1 f.words && leb f.words 2) && (leb (f.offset + f.words) 99 && leb f.access 2)
 
-pub every-shaped : every shaped fields ≡ true
-every-shaped = refl
+pub every_shaped : every shaped fields ≡ true
+every_shaped = refl
 
 pub shape : (f : Field) → shaped f ≡ true → Shape f
 shape f e =
@@ -90,8 +90,8 @@ shape f e =
     record { some = leb-true _ _ q.0; few = leb-true _ _ q.1; ends = leb-true _ _ r.0; access = leb-true _ _ r.1 }
 
 -- a row has one or two words, ends before the last register of its block, and its access is 0, 1 or 2
-pub found-shape : (r : ℕ) (f : Field) → field_at r ≡ Row f → Shape f
-found-shape r f e = shape f (found-test shaped every-shaped r f e)
+pub found_shape : (r : ℕ) (f : Field) → field_at r ≡ Row f → Shape f
+found_shape r f e = shape f (found_test shaped every_shaped r f e)
 
 -- no last register of a block exists
 pub found_inside : (r : ℕ) → found (field_at r) ≡ true → r % 100 < 99
@@ -99,20 +99,20 @@ found_inside r = go (field_at r) refl
   where
     go : (x : Found) → field_at r ≡ x → found x ≡ true → r % 100 < 99
     go Absent q e = absurd (false≢true e)
-    go (Row f) q e = omega (arith, (found-covered r f q).within, (found-shape r f q).ends)
+    go (Row f) q e = omega (arith, (found_covered r f q).within, (found_shape r f q).ends)
 
 -- ---- the map
 
-mapped : below (λ r. beq (found (field_at r)) (inMap r)) 500 ≡ true
-unfolding field_at holds owns ownerBit inMap
+mapped : below (λ r. beq (found (field_at r)) (in_map r)) 500 ≡ true
+unfolding field_at holds owns owner_bit in_map
 mapped = refl
 
 -- the registers of the table are those of the map
-pub map-exact : (r : ℕ) → found (field_at r) ≡ inMap r
-unfolding inMap
-map-exact r = beq-true _ _ (everywhere (λ r. beq (found (field_at r)) (inMap r)) 500 mapped outside r)
+pub map_exact : (r : ℕ) → found (field_at r) ≡ in_map r
+unfolding in_map
+map_exact r = beq_true _ _ (everywhere (λ r. beq (found (field_at r)) (in_map r)) 500 mapped outside r)
   where
-    outside : (r : ℕ) → 500 ≤ r → beq (found (field_at r)) (inMap r) ≡ true
+    outside : (r : ℕ) → 500 ≤ r → beq (found (field_at r)) (in_map r) ≡ true
     outside r h = rw (past r h, le-ltb r 100 (omega arith), le-ltb r 500 h)
 
 -- ---- whole fields
@@ -121,9 +121,9 @@ abbrev is_row : Field → Found → Bool
 is_row f Absent = false
 is_row f (Row g) = eqb g.offset f.offset && eqb g.words f.words && eqb g.access f.access && eqb g.owners f.owners
 
-is-row : (f : Field) (x : Found) → is_row f x ≡ true → x ≡ Row f
-is-row f Absent e = absurd (false≢true e)
-is-row f (Row g) e =
+is_row_lem : (f : Field) (x : Found) → is_row f x ≡ true → x ≡ Row f
+is_row_lem f Absent e = absurd (false≢true e)
+is_row_lem f (Row g) e =
     let p = both (eqb g.offset f.offset && eqb g.words f.words && eqb g.access f.access) (eqb g.owners f.owners) e in
     let q = both (eqb g.offset f.offset && eqb g.words f.words) (eqb g.access f.access) p.0 in
     let s = both (eqb g.offset f.offset) (eqb g.words f.words) q.0 in
@@ -138,15 +138,15 @@ is-row f (Row g) e =
 single : Field → Bool
 single f = below (λ owner. not (owns f owner) || below (λ i. is_row f (field_at (100 * owner + (f.offset + i)))) f.words) 5
 
-every-single : every single fields ≡ true
-unfolding single field_at holds owns ownerBit
-every-single = refl
+every_single : every single fields ≡ true
+unfolding single field_at holds owns owner_bit
+every_single = refl
 
-own-register : (f : Field) (owner i : ℕ) → single f ≡ true → owns f owner ≡ true → i < f.words → field_at (100 * owner + (f.offset + i)) ≡ Row f
+own_register : (f : Field) (owner i : ℕ) → single f ≡ true → owns f owner ≡ true → i < f.words → field_at (100 * owner + (f.offset + i)) ≡ Row f
 unfolding single
-own-register f owner i s o h =
-    let t = at-number (λ k. not (owns f k) || below (λ i. is_row f (field_at (100 * k + (f.offset + i)))) f.words) 5 s owner (owner-below f owner o) in
-    is-row f _ (at-number (λ i. is_row f (field_at (100 * owner + (f.offset + i)))) f.words (given (owns f owner) _ t o) i h)
+own_register f owner i s o h =
+    let t = at_number (λ k. not (owns f k) || below (λ i. is_row f (field_at (100 * k + (f.offset + i)))) f.words) 5 s owner (owner_below f owner o) in
+    is_row_lem f _ (at_number (λ i. is_row f (field_at (100 * owner + (f.offset + i)))) f.words (given (owns f owner) _ t o) i h)
 
 -- what a whole field is
 pub record Exact (start count : ℕ) (f : Field) : Type 0 where
@@ -168,38 +168,38 @@ module _ (start count : ℕ) (f : Field) where
       record { owned = q.0; begins = eqb-true _ _ q.1; all = eqb-true _ _ p.1 }
 
   -- a row of the table that is exactly these registers is found at each of them
-  exact-register : single f ≡ true → exactly f (start / 100) (start % 100) count ≡ true → (i : ℕ) → i < count → field_at (start + i) ≡ Row f
-  exact-register s e i h =
+  exact_register : single f ≡ true → exactly f (start / 100) (start % 100) count ≡ true → (i : ℕ) → i < count → field_at (start + i) ≡ Row f
+  exact_register s e i h =
       let p = parts e in
       let r : start + i ≡ 100 * (start / 100) + (f.offset + i) = omega arith in
-      rw r (own-register f (start / 100) i s p.owned (omega arith))
+      rw r (own_register f (start / 100) i s p.owned (omega arith))
 
-  module _ (e : wholeField start count ≡ Row f) where
+  module _ (e : whole_field start count ≡ Row f) where
     passed : (t : Field → Bool) → every t fields ≡ true → (exactly f (start / 100) (start % 100) count ≡ true) × (t f ≡ true)
-    unfolding wholeField
+    unfolding whole_field
     passed t h = first_passes (λ g. exactly g (start / 100) (start % 100) count) t fields h f e
 
     -- the registers of a whole field are its own
     pub whole-registers : (i : ℕ) → i < count → field_at (start + i) ≡ Row f
-    whole-registers i h = exact-register (passed single every-single).1 (passed single every-single).0 i h
+    whole-registers i h = exact_register (passed single every_single).1 (passed single every_single).0 i h
 
     -- they begin where the field does and are as many
     pub whole_row : Exact start count f
     whole_row =
-        let p = parts (passed shaped every-shaped).0 in
-        let s = shape f (passed shaped every-shaped).1 in
+        let p = parts (passed shaped every_shaped).0 in
+        let s = shape f (passed shaped every_shaped).1 in
         record { field = rw add-zero at (whole-registers 0 (omega arith)); begins = p.begins; all = p.all }
 
 -- and the other way round
-pub row-whole : (start count : ℕ) (f : Field) → Exact start count f → wholeField start count ≡ Row f
-unfolding wholeField field_at exactly
-row-whole start count f x =
-    go (wholeField start count) refl
-    (also-found (λ g. holds g (start / 100) (start % 100)) (λ g. exactly g (start / 100) (start % 100) count) fields f x.field is)
+pub row_whole : (start count : ℕ) (f : Field) → Exact start count f → whole_field start count ≡ Row f
+unfolding whole_field field_at exactly
+row_whole start count f x =
+    go (whole_field start count) refl
+    (also_found (λ g. holds g (start / 100) (start % 100)) (λ g. exactly g (start / 100) (start % 100) count) fields f x.field is)
   where
     is : exactly f (start / 100) (start % 100) count ≡ true
-    is = rw ((found-covered start f x.field).owned, eq-eqb f.offset (start % 100) x.begins, eq-eqb f.words count x.all)
+    is = rw ((found_covered start f x.field).owned, eq-eqb f.offset (start % 100) x.begins, eq-eqb f.words count x.all)
 
-    go : (y : Found) → wholeField start count ≡ y → found y ≡ true → y ≡ Row f
+    go : (y : Found) → whole_field start count ≡ y → found y ≡ true → y ≡ Row f
     go Absent q e = absurd (false≢true e)
     go (Row g) q e = sym (whole_row start count g q).field ∙ x.field

@@ -13,11 +13,11 @@ use lib.Seq.{drop-cons}
 use borrow.Author.Tests.{ltb-true, ne_eqb, not-true}
 use Rattle.floats.proofs.Bools.{both}
 use Rattle.fields.specs.declared.Field.{Field}
-use Rattle.fields.specs.Fields.{field, fields, exactly, first_of, wholeField}
+use Rattle.fields.specs.Fields.{field, fields, exactly, first_of, whole_field}
 use Rattle.fields.specs.Fields.Found.{Row}
 use Rattle.fields.proofs.Computed.{every}
-use Rattle.fields.proofs.Registers.{Shape, shaped, shape, every-shaped}
-use Rattle.fields.proofs.Runs.{reach, reached, before, half-before}
+use Rattle.fields.proofs.Registers.{Shape, shaped, shape, every_shaped}
+use Rattle.fields.proofs.Runs.{reach, reached, before, half_before}
 
 -- what stands past the table's end
 abbrev pub no_field : Field
@@ -41,8 +41,8 @@ module _ (i : ℕ) (h : i < length fields) where
   more owner at = rw from_row
 
 -- a row by its index has a row's shape
-pub row-shape : (i : ℕ) → i < length fields → Shape (get_or fields i no_field)
-row-shape i h = shape _ (at fields every-shaped i h)
+pub row_shape : (i : ℕ) → i < length fields → Shape (get_or fields i no_field)
+row_shape i h = shape _ (at fields every_shaped i h)
   where
     at : (fs : List Field) → every shaped fs ≡ true → (i : ℕ) → i < length fs → shaped (get_or fs i no_field) ≡ true
     at [] e i h = absurd (not-suc-le-zero h)
@@ -67,8 +67,8 @@ elsewhere owner o count (f ∷ fs) e =
     rw (ne_eqb f.offset o (λ q. omega arith), and-false) (elsewhere owner o count fs p.1)
 
 -- the search for a whole field may begin at row offset / 2
-pub whole-begins : (start count : ℕ) → wholeField start count ≡ first_of (λ f. exactly f (start / 100) (start % 100) count) (drop (start % 100 / 2) fields)
-unfolding wholeField
-whole-begins start count =
+pub whole_begins : (start count : ℕ) → whole_field start count ≡ first_of (λ f. exactly f (start / 100) (start % 100) count) (drop (start % 100 / 2) fields)
+unfolding whole_field
+whole_begins start count =
     skip (λ f. exactly f (start / 100) (start % 100) count) (start % 100 / 2) fields
-    (elsewhere (start / 100) (start % 100) count (take (start % 100 / 2) fields) (half-before start))
+    (elsewhere (start / 100) (start % 100) count (take (start % 100 / 2) fields) (half_before start))

@@ -7,41 +7,41 @@ use lib.Dec.{eqb, leb}
 use borrow.Author.Tests.{eqb-true, eq-eqb, ne_eqb}
 use Rattle.fields.specs.declared.Field.{Field}
 use Rattle.fields.specs.Fields.Found.{Row}
-use Rattle.fields.specs.Fields.{fields, ownerBit, owns, field_at}
+use Rattle.fields.specs.Fields.{fields, owner_bit, owns, field_at}
 use Rattle.fields.proofs.Computed.{other, given, every}
-use Rattle.fields.proofs.Registers.{owner-below, found-test, found-covered}
+use Rattle.fields.proofs.Registers.{owner_below, found_test, found_covered}
 
 -- the owner of a register is the device or a sensor
-pub found-owner : (r : ℕ) (f : Field) → field_at r ≡ Row f → r / 100 ≤ 4
-found-owner r f e = omega (arith, owner-below f (r / 100) (found-covered r f e).owned)
+pub found_owner : (r : ℕ) (f : Field) → field_at r ≡ Row f → r / 100 ≤ 4
+found_owner r f e = omega (arith, owner_below f (r / 100) (found_covered r f e).owned)
 
 written : Field → Bool
 written f = eqb f.access 0 || (not (owns f 0) || eqb f.offset 9)
 
-every-written : every written fields ≡ true
-unfolding written owns ownerBit
-every-written = refl
+every_written : every written fields ≡ true
+unfolding written owns owner_bit
+every_written = refl
 
 -- the device's one field that can be written is the technician's number, register 9
-pub device-written : (r : ℕ) (f : Field) → field_at r ≡ Row f → (f.access ≡ 0 → ⊥) → r / 100 ≡ 0 → f.offset ≡ 9
+pub device_written_lem : (r : ℕ) (f : Field) → field_at r ≡ Row f → (f.access ≡ 0 → ⊥) → r / 100 ≡ 0 → f.offset ≡ 9
 unfolding written
-device-written r f e a z =
-    let o : owns f 0 ≡ true = rw z at (found-covered r f e).owned in
-    let t = other (eqb f.access 0) (not (owns f 0) || eqb f.offset 9) (ne_eqb f.access 0 a) (found-test written every-written r f e) in
+device_written_lem r f e a z =
+    let o : owns f 0 ≡ true = rw z at (found_covered r f e).owned in
+    let t = other (eqb f.access 0) (not (owns f 0) || eqb f.offset 9) (ne_eqb f.access 0 a) (found_test written every_written r f e) in
     eqb-true f.offset 9 (given (owns f 0) (eqb f.offset 9) t o)
 
 -- the method's, a coefficient's or a point's offset
-abbrev pub calibrationOffset : ℕ → Bool
-calibrationOffset o = eqb o 6 || (leb 10 o && leb o 23)
+abbrev pub calibration_offset : ℕ → Bool
+calibration_offset o = eqb o 6 || (leb 10 o && leb o 23)
 
 modal : Field → Bool
-modal f = not (eqb f.access 2) || calibrationOffset f.offset
+modal f = not (eqb f.access 2) || calibration_offset f.offset
 
-every-modal : every modal fields ≡ true
+every_modal : every modal fields ≡ true
 unfolding modal
-every-modal = refl
+every_modal = refl
 
 -- what is writable in mode only is the method, a coefficient or a point
-pub modal-field : (r : ℕ) (f : Field) → field_at r ≡ Row f → f.access ≡ 2 → calibrationOffset f.offset ≡ true
+pub modal_field : (r : ℕ) (f : Field) → field_at r ≡ Row f → f.access ≡ 2 → calibration_offset f.offset ≡ true
 unfolding modal
-modal-field r f e a = given (eqb f.access 2) (calibrationOffset f.offset) (found-test modal every-modal r f e) (eq-eqb f.access 2 a)
+modal_field r f e a = given (eqb f.access 2) (calibration_offset f.offset) (found_test modal every_modal r f e) (eq-eqb f.access 2 a)

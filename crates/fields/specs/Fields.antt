@@ -58,12 +58,12 @@ fields =
     []
 
 -- the bit of the owner whose registers begin at 100 × owner: 0 is the device, 1..4 are the sensors; nobody else owns a field
-unfoldable pub ownerBit : ℕ → ℕ
-ownerBit owner =
+unfoldable pub owner_bit : ℕ → ℕ
+owner_bit owner =
     cond (eqb owner 0) 1 (cond (eqb owner 1) 2 (cond (eqb owner 2) 4 (cond (eqb owner 3) 8 (cond (eqb owner 4) 16 0))))
 
 unfoldable pub owns : Field → ℕ → Bool
-owns f owner = not (eqb (bit_and f.owners (ownerBit owner)) 0)
+owns f owner = not (eqb (bit_and f.owners (owner_bit owner)) 0)
 
 -- the owner's register at the offset is one of the field's
 unfoldable pub holds : Field → ℕ → ℕ → Bool
@@ -92,23 +92,23 @@ found (Row f) = true
 found Absent = false
 
 -- "a register named is absent, or past 0xFFFF": count registers from r on all exist
-abbrev pub allFound : ℕ → ℕ → Bool
-allFound r zero = true
-allFound r (suc n) = found (field_at r) && allFound (suc r) n
+abbrev pub all_found : ℕ → ℕ → Bool
+all_found r zero = true
+all_found r (suc n) = found (field_at r) && all_found (suc r) n
 
 -- "exactly one whole field"
-unfoldable pub wholeField : ℕ → ℕ → Found
-wholeField start count = first_of (λ f. exactly f (start / 100) (start % 100) count) fields
+unfoldable pub whole_field : ℕ → ℕ → Found
+whole_field start count = first_of (λ f. exactly f (start / 100) (start % 100) count) fields
 
 -- ---- registers that adjoin
 
-abbrev pub spanIn : Found → Span
-spanIn (Row f) = Whole f
-spanIn Absent = Mismatch
+abbrev pub span_in : Found → Span
+span_in (Row f) = Whole f
+span_in Absent = Mismatch
 
 -- what count registers from start on are: with one absent among them, one whole field, or neither
 unfoldable pub span_of : ℕ → ℕ → Span
-span_of start count = cond (allFound start count) (spanIn (wholeField start count)) Gap
+span_of start count = cond (all_found start count) (span_in (whole_field start count)) Gap
 
 -- document 01's code for each: "2: a register named is absent, or past 0xFFFF", "0x80: a write isn't exactly one whole field"; 0 is no refusal
 abbrev pub code_of : Span → ℕ

@@ -1,21 +1,21 @@
 -- What comes of a frame, from the parts of the sonde that the code hands on: its address, the values of the device, and the sensor that the plan
--- names. No reader has to believe these definitions: `steps-left` (frames/proofs/Steps) says that they leave what the definition of the frame call does.
+-- names. No reader has to believe these definitions: `steps_left` (frames/proofs/Steps) says that they leave what the definition of the frame call does.
 -- Assumes nothing.
 use Rattle.std.specs.Prelude.{Bool, List, [], ℕ, length}
 use Rattle.framing.specs.Framing.{Carried, body_of}
-use Rattle.modbus.specs.Request.{headerOf}
+use Rattle.modbus.specs.Request.{header_of}
 use Rattle.modbus.specs.declared.Header.{Header}
 use Rattle.sensors.specs.declared.Sensor.{Sensor}
 use Rattle.registers.specs.declared.Device.{Device}
 use Rattle.plans.specs.declared.Plan.{Plan}
 use Rattle.plans.specs.declared.Plan.TheVariants.{Bad, Foreign, BroadcastRead, Refused, Reading, Writing}
-use Rattle.state.specs.Sonde.{withSetup}
+use Rattle.state.specs.Sonde.{with_setup}
 use Rattle.state.specs.declared.Event.TheVariants.{Uncounted, Bad as CountedBad, Good, Exception}
 use Rattle.state.specs.declared.Sonde.{Sonde}
-use Rattle.replies.specs.Reply.{replyOf}
-use Rattle.service.specs.Frame.{planFor, refusalBody, written_by}
-use Rattle.reads.specs.Steps.{ownedBody}
-use Rattle.execution.specs.Steps.{Step, step, writeStep}
+use Rattle.replies.specs.Reply.{reply_of}
+use Rattle.service.specs.Frame.{plan_for, refusal_body, written_by}
+use Rattle.reads.specs.Steps.{owned_body}
+use Rattle.execution.specs.Steps.{Step, step, write_step}
 use Rattle.execution.specs.declared.Change.{Change}
 use Rattle.execution.specs.declared.Change.TheVariants.{Nothing, Setup}
 use Rattle.frames.specs.declared.Served.{Served}
@@ -25,19 +25,19 @@ abbrev pub step_of : ℕ → Device → Sensor → Header → List ℕ → List 
 step_of own e s h body w Bad = step CountedBad [] Nothing e.technician w
 step_of own e s h body w Foreign = step Uncounted [] Nothing e.technician w
 step_of own e s h body w BroadcastRead = step Good [] Nothing e.technician w
-step_of own e s h body w (Refused code) = step Exception (refusalBody h code) Nothing e.technician w
-step_of own e s h body w (Reading start count) = step Good (ownedBody own e s start count) Nothing e.technician w
-step_of own e s h body w (Writing owner f v) = writeStep h body w e s (written_by owner e s f v)
+step_of own e s h body w (Refused code) = step Exception (refusal_body h code) Nothing e.technician w
+step_of own e s h body w (Reading start count) = step Good (owned_body own e s start count) Nothing e.technician w
+step_of own e s h body w (Writing owner f v) = write_step h body w e s (written_by owner e s f v)
 
 -- of what a frame carries
-unfoldable pub stepFor : ℕ → Device → Sensor → Carried → List ℕ → Step
-stepFor own e s x w = step_of own e s (headerOf (body_of x)) (body_of x) w (planFor own x)
+unfoldable pub step_for : ℕ → Device → Sensor → Carried → List ℕ → Step
+step_for own e s x w = step_of own e s (header_of (body_of x)) (body_of x) w (plan_for own x)
 
 -- what the code hands on of it; the rest is in the lent slices
-abbrev pub servedOf : Bool → Step → Served
-servedOf ascii x = record { event = x.event; length = length (replyOf ascii x.body); change = x.change; technician = x.technician }
+abbrev pub served_of : Bool → Step → Served
+served_of ascii x = record { event = x.event; length = length (reply_of ascii x.body); change = x.change; technician = x.technician }
 
 -- the sonde with a change of the sensor that was named
 abbrev pub changed : Sonde → ℕ → Change → Sonde
 changed d s Nothing = d
-changed d s (Setup x) = withSetup d s x
+changed d s (Setup x) = with_setup d s x

@@ -2,14 +2,14 @@
 ghost use Rattle.std.specs.Prelude.{◌≡◌, ◌≤◌, length};
 ghost use Rattle.words.specs.Overlay.{overlay};
 ghost use Rattle.words.specs.Bytes.{Bytes};
-ghost use Rattle.framing.specs.Framing.{roomIn};
-ghost use Rattle.framing.specs.Steps.{carriedBy};
+ghost use Rattle.framing.specs.Framing.{room_in};
+ghost use Rattle.framing.specs.Steps.{carried_by};
 ghost use Rattle.plans.proofs.Plans.{Facts};
-ghost use Rattle.replies.specs.Reply.{replyOf};
-ghost use Rattle.service.specs.Reads.{deviceOf};
-ghost use Rattle.admission.specs.Steps.{judgedOf};
+ghost use Rattle.replies.specs.Reply.{reply_of};
+ghost use Rattle.service.specs.Reads.{device_of};
+ghost use Rattle.admission.specs.Steps.{judged_of};
 ghost use Rattle.execution.specs.Steps.{effect_of};
-ghost use Rattle.frames.specs.Steps.{step_of, stepFor, servedOf};
+ghost use Rattle.frames.specs.Steps.{step_of, step_for, served_of};
 
 use admission::Judged;
 use execution::{Change, Effect};
@@ -54,9 +54,9 @@ fn answer(
     arrival: Arrival,
 ) -> Effect
     requires { (256 ≤ length reply.old) × (length body.now ≤ 254) × Facts body.now plan }
-    ensures value { result ≡ effect_of (step_of own (deviceOf counters technician volume.old arrival) sensor header body.now volume.old plan) }
-    ensures reply_after { reply.new ≡ overlay (step_of own (deviceOf counters technician volume.old arrival) sensor header body.now volume.old plan).body reply.old }
-    ensures volume_after { volume.new ≡ (step_of own (deviceOf counters technician volume.old arrival) sensor header body.now volume.old plan).volume }
+    ensures value { result ≡ effect_of (step_of own (device_of counters technician volume.old arrival) sensor header body.now volume.old plan) }
+    ensures reply_after { reply.new ≡ overlay (step_of own (device_of counters technician volume.old arrival) sensor header body.now volume.old plan).body reply.old }
+    ensures volume_after { volume.new ≡ (step_of own (device_of counters technician volume.old arrival) sensor header body.now volume.old plan).volume }
 {
     match plan {
         Plan::Bad => counted(Event::Bad, 0, technician),
@@ -110,11 +110,11 @@ pub fn serve(
     sensor: Sensor,
     arrival: Arrival,
 ) -> Served
-    requires { (roomIn arrival.ascii ≤ length reply.old) × (length body.now ≤ 254) × (judged ≡ judgedOf own body.now) }
-    ensures value { result ≡ servedOf arrival.ascii (stepFor own (deviceOf counters technician volume.old arrival) sensor (carriedBy body.now) volume.old) }
-    ensures reply_after { reply.new ≡ overlay (replyOf arrival.ascii (stepFor own (deviceOf counters technician volume.old arrival) sensor (carriedBy body.now) volume.old).body) reply.old }
-    ensures volume_after { volume.new ≡ (stepFor own (deviceOf counters technician volume.old arrival) sensor (carriedBy body.now) volume.old).volume }
-    ensures bytes { Bytes (stepFor own (deviceOf counters technician volume.old arrival) sensor (carriedBy body.now) volume.old).body }
+    requires { (room_in arrival.ascii ≤ length reply.old) × (length body.now ≤ 254) × (judged ≡ judged_of own body.now) }
+    ensures value { result ≡ served_of arrival.ascii (step_for own (device_of counters technician volume.old arrival) sensor (carried_by body.now) volume.old) }
+    ensures reply_after { reply.new ≡ overlay (reply_of arrival.ascii (step_for own (device_of counters technician volume.old arrival) sensor (carried_by body.now) volume.old).body) reply.old }
+    ensures volume_after { volume.new ≡ (step_for own (device_of counters technician volume.old arrival) sensor (carried_by body.now) volume.old).volume }
+    ensures bytes { Bytes (step_for own (device_of counters technician volume.old arrival) sensor (carried_by body.now) volume.old).body }
 {
     let plan = judged.plan;
     let effect = answer(

@@ -2,8 +2,8 @@
 -- ASCII, false for RTU. Document 01, "Frames" and "What is sent back", and document 02, wish 1: "the host says with each frame which framing it
 -- has". Assumes nothing.
 use Rattle.std.specs.Prelude.{Bool, cond, List, [], ℕ}
-use Rattle.rtu.specs.Frame.{isGood, framed, body_of as rtuBody}
-use Rattle.ascii.specs.Ascii.{asciiGood, asciiBody, asciiFramed}
+use Rattle.rtu.specs.Frame.{is_good, framed, body_of as rtu_body}
+use Rattle.ascii.specs.Ascii.{ascii_good, ascii_body, ascii_framed}
 
 -- what a frame carries: nothing, as it counts bad, or its body, which is all that its request is judged by
 pub data Carried : Type 0 where
@@ -11,12 +11,12 @@ pub data Carried : Type 0 where
   Body : List ℕ → Carried
 
 -- the body of a frame that keeps to its framing's form and lengths, and has its body's checksum; any other "counts bad"
-abbrev pub carriedIf : Bool → List ℕ → Carried
-carriedIf good body = cond good (Body body) Bad
+abbrev pub carried_if : Bool → List ℕ → Carried
+carried_if good body = cond good (Body body) Bad
 
 -- by the framing that the host says the frame has
-unfoldable pub carriedIn : Bool → List ℕ → Carried
-carriedIn ascii frame = cond ascii (carriedIf (asciiGood frame) (asciiBody frame)) (carriedIf (isGood frame) (rtuBody frame))
+unfoldable pub carried_in : Bool → List ℕ → Carried
+carried_in ascii frame = cond ascii (carried_if (ascii_good frame) (ascii_body frame)) (carried_if (is_good frame) (rtu_body frame))
 
 -- the body that is carried; no bytes where it is bad
 abbrev pub body_of : Carried → List ℕ
@@ -24,9 +24,9 @@ body_of Bad = []
 body_of (Body body) = body
 
 -- "The reply goes out in the same framing": the frame of a body
-unfoldable pub framedIn : Bool → List ℕ → List ℕ
-framedIn ascii body = cond ascii (asciiFramed body) (framed body)
+unfoldable pub framed_in : Bool → List ℕ → List ℕ
+framed_in ascii body = cond ascii (ascii_framed body) (framed body)
 
 -- "3: reply buffer under 256 bytes"; in ASCII "the reply buffer must then hold 513 bytes, under number 3"
-unfoldable pub roomIn : Bool → ℕ
-roomIn ascii = cond ascii 513 256
+unfoldable pub room_in : Bool → ℕ
+room_in ascii = cond ascii 513 256

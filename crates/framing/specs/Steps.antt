@@ -1,18 +1,18 @@
--- What a frame carries, as the code hands it on: a list of bytes, none for a bad frame. No reader has to believe these definitions: `decoded-body`
--- and `carried-again` (framing/proofs/Carried) say that they come to what a frame carries. Assumes nothing.
+-- What a frame carries, as the code hands it on: a list of bytes, none for a bad frame. No reader has to believe these definitions: `decoded_body`
+-- and `carried_again` (framing/proofs/Carried) say that they come to what a frame carries. Assumes nothing.
 use Rattle.std.specs.Prelude.{Bool, true, cond, List, [], ℕ, eqb, length}
-use Rattle.ascii.specs.Steps.{decodedOver}
-use Rattle.framing.specs.Framing.{Carried, carriedIn, body_of}
+use Rattle.ascii.specs.Steps.{decoded_over}
+use Rattle.framing.specs.Framing.{Carried, carried_in, body_of}
 use Rattle.framing.specs.Framing.Carried.{Bad, Body}
 
 -- what is decoded into bytes of its own: an ASCII frame's body
-unfoldable pub decodedIn : Bool → List ℕ → List ℕ
-decodedIn ascii frame = cond ascii (body_of (carriedIn true frame)) []
+unfoldable pub decoded_in : Bool → List ℕ → List ℕ
+decoded_in ascii frame = cond ascii (body_of (carried_in true frame)) []
 
 -- what the lent bytes hold then
-unfoldable pub decodedInto : Bool → List ℕ → List ℕ → List ℕ
-decodedInto ascii frame bytes = cond ascii (decodedOver frame bytes) bytes
+unfoldable pub decoded_into : Bool → List ℕ → List ℕ → List ℕ
+decoded_into ascii frame bytes = cond ascii (decoded_over frame bytes) bytes
 
 -- a list of bytes that was handed on
-unfoldable pub carriedBy : List ℕ → Carried
-carriedBy body = cond (eqb (length body) 0) Bad (Body body)
+unfoldable pub carried_by : List ℕ → Carried
+carried_by body = cond (eqb (length body) 0) Bad (Body body)

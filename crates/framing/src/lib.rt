@@ -2,12 +2,12 @@
 // framing it has: ASCII, or RTU. Above, number 3 and the reply's sealing ask for it, through these functions, and nothing else.
 ghost use Rattle.std.specs.Prelude.{◌≡◌, false, cond, ◌≤◌, length, take};
 ghost use Rattle.words.specs.Overlay.{overlay};
-ghost use Rattle.framing.specs.Framing.{body_of, carriedIn, framedIn, roomIn};
-ghost use Rattle.framing.specs.Steps.{decodedIn, decodedInto};
+ghost use Rattle.framing.specs.Framing.{body_of, carried_in, framed_in, room_in};
+ghost use Rattle.framing.specs.Steps.{decoded_in, decoded_into};
 
 // The bytes that a reply's buffer must have.
 pub fn room(ascii: bool) -> usize
-    ensures { result ≡ roomIn ascii }
+    ensures { result ≡ room_in ascii }
 {
     if ascii {
         return 513;
@@ -19,9 +19,9 @@ pub fn room(ascii: bool) -> usize
 // is decoded.
 pub fn decode(ascii: bool, frame: &[u8], bytes: &mut [u8]) -> usize
     requires { 255 ≤ length bytes.old }
-    ensures value { result ≡ length (decodedIn ascii frame.now) }
-    ensures bytes_after { take result bytes.new ≡ decodedIn ascii frame.now }
-    ensures bytes_after_2 { bytes.new ≡ decodedInto ascii frame.now bytes.old }
+    ensures value { result ≡ length (decoded_in ascii frame.now) }
+    ensures bytes_after { take result bytes.new ≡ decoded_in ascii frame.now }
+    ensures bytes_after_2 { bytes.new ≡ decoded_into ascii frame.now bytes.old }
 {
     if ascii {
         return ascii::frame::decode(frame, bytes);
@@ -31,7 +31,7 @@ pub fn decode(ascii: bool, frame: &[u8], bytes: &mut [u8]) -> usize
 
 // The body that an RTU frame carries; no bytes where it is bad.
 fn rtu_body(frame: &[u8]) -> &[u8]
-    ensures { result.now ≡ body_of (carriedIn false frame.now) }
+    ensures { result.now ≡ body_of (carried_in false frame.now) }
 {
     if rtu::frame::is_good(frame) {
         return rtu::frame::body(frame);
@@ -41,7 +41,7 @@ fn rtu_body(frame: &[u8]) -> &[u8]
 
 // The body that a frame carries, where `decoded` is what `decode` made of it; no bytes where it is bad.
 pub fn body<'a>(ascii: bool, frame: &'a [u8], decoded: &'a [u8]) -> &'a [u8]
-    ensures { result.now ≡ cond ascii decoded.now (body_of (carriedIn false frame.now)) }
+    ensures { result.now ≡ cond ascii decoded.now (body_of (carried_in false frame.now)) }
 {
     if ascii {
         return decoded;
@@ -51,9 +51,9 @@ pub fn body<'a>(ascii: bool, frame: &'a [u8], decoded: &'a [u8]) -> &'a [u8]
 
 // Makes a frame of the body in the first n bytes of a buffer, in place, and gives the frame's length.
 pub fn seal(ascii: bool, buffer: &mut [u8], n: usize) -> u16
-    requires { (n ≤ 254) × (roomIn ascii ≤ length buffer.old) }
-    ensures value { result ≡ length (framedIn ascii (take n buffer.old)) }
-    ensures buffer_after { buffer.new ≡ overlay (framedIn ascii (take n buffer.old)) buffer.old }
+    requires { (n ≤ 254) × (room_in ascii ≤ length buffer.old) }
+    ensures value { result ≡ length (framed_in ascii (take n buffer.old)) }
+    ensures buffer_after { buffer.new ≡ overlay (framed_in ascii (take n buffer.old)) buffer.old }
 {
     if ascii {
         return ascii::frame::seal(buffer, n);

@@ -1,7 +1,7 @@
 // The search of the table of fields: what registers that adjoin are.
 ghost use Rattle.std.specs.Prelude.{◌≡◌, ◌+◌, ◌≤◌};
-ghost use Rattle.fields.specs.Fields.{ownerBit, span_of, code_of};
-ghost use Rattle.lookup.specs.Steps.{reachBy};
+ghost use Rattle.fields.specs.Fields.{owner_bit, span_of, code_of};
+ghost use Rattle.lookup.specs.Steps.{reach_by};
 
 pub mod rows; // the table
 
@@ -11,7 +11,7 @@ use refusals::codes;
 
 // The bit of an owner: 0 is the device, 1 to 4 are the sensors.
 fn owner_bit(owner: u16) -> u8
-    ensures { result ≡ ownerBit owner }
+    ensures { result ≡ owner_bit owner }
 {
     match owner {
         0 => 1,
@@ -26,7 +26,7 @@ fn owner_bit(owner: u16) -> u8
 // The offset that isn't known to exist yet: past the field, where the field holds it.
 fn reach(f: Field, bit: u8, at: u16) -> u16
     requires { f.offset + f.words ≤ 65535 }
-    ensures { result ≡ reachBy f bit at }
+    ensures { result ≡ reach_by f bit at }
 {
     let end = f.offset + f.words;
     if (f.owners & bit != 0) & (f.offset <= at) & (at < end) {

@@ -2,8 +2,8 @@
 use Rattle.std.specs.Prelude.{cond, ℕ, eqb, Float}
 use Rattle.std.specs.Float.{binary32}
 use Rattle.std.specs.Float.Ieee.{sub, mul, div, eq}
-use Rattle.floats.specs.Floats.{plusZero}
-use Rattle.coefficients.specs.Coefficients.{coefficients, allFinite, inLimits}
+use Rattle.floats.specs.Floats.{plus_zero}
+use Rattle.coefficients.specs.Coefficients.{coefficients, all_finite, in_limits}
 use Rattle.coefficients.specs.declared.Coefficients.{Coefficients}
 use Rattle.methods.specs.declared.Points.{Points}
 use Rattle.methods.specs.declared.Method.{Method}
@@ -17,19 +17,19 @@ abbrev pub points : Float → Float → Float → Float → Points
 points a b c d = record { x1 = a; y1 = b; x2 = c; y2 = d }
 
 -- "direct (0)", "one point (1)", "two points (2)": the number that names each method in registers and entries
-abbrev pub methodNumber : Method → ℕ
-methodNumber (Direct a b c) = 0
-methodNumber (OnePoint x1 y1) = 1
-methodNumber (TwoPoints x1 y1 x2 y2) = 2
+abbrev pub method_number : Method → ℕ
+method_number (Direct a b c) = 0
+method_number (OnePoint x1 y1) = 1
+method_number (TwoPoints x1 y1 x2 y2) = 2
 
 -- the method that a number names, with the trial coefficients or the points that it uses
-unfoldable pub methodOf : ℕ → Coefficients → Points → Method
-methodOf n c p = cond (eqb n 1) (OnePoint p.x1 p.y1) (cond (eqb n 2) (TwoPoints p.x1 p.y1 p.x2 p.y2) (Direct c.coefficient1 c.coefficient2 c.coefficient3))
+unfoldable pub method_of : ℕ → Coefficients → Points → Method
+method_of n c p = cond (eqb n 1) (OnePoint p.x1 p.y1) (cond (eqb n 2) (TwoPoints p.x1 p.y1 p.x2 p.y2) (Direct c.coefficient1 c.coefficient2 c.coefficient3))
 
 -- "x1, y1, x2, y2 (+0.0 where the method doesn't use them)"
 abbrev pub points_of : Method → Points
-points_of (Direct a b c) = points plusZero plusZero plusZero plusZero
-points_of (OnePoint x1 y1) = points x1 y1 plusZero plusZero
+points_of (Direct a b c) = points plus_zero plus_zero plus_zero plus_zero
+points_of (OnePoint x1 y1) = points x1 y1 plus_zero plus_zero
 points_of (TwoPoints x1 y1 x2 y2) = points x1 y1 x2 y2
 
 -- "m = (y1 - y2) / (x1 - x2)"
@@ -41,19 +41,19 @@ abbrev pub offset : Float → Float → Float → Float
 offset m x1 y1 = sub binary32 y1 (mul binary32 m x1)
 
 -- the candidate; none with one point and x1 equal to 0 (either zero), or with two points and x1 equal to x2
-unfoldable pub candidateOf : Method → Candidate
-candidateOf (Direct a b c) = Made (coefficients a b c)
-candidateOf (OnePoint x1 y1) = cond (eq x1 plusZero) ZeroX (Made (coefficients plusZero (div binary32 y1 x1) plusZero))
-candidateOf (TwoPoints x1 y1 x2 y2) = cond (eq x1 x2) SameX (Made (coefficients (offset (slope x1 y1 x2 y2) x1 y1) (slope x1 y1 x2 y2) plusZero))
+unfoldable pub candidate_of : Method → Candidate
+candidate_of (Direct a b c) = Made (coefficients a b c)
+candidate_of (OnePoint x1 y1) = cond (eq x1 plus_zero) ZeroX (Made (coefficients plus_zero (div binary32 y1 x1) plus_zero))
+candidate_of (TwoPoints x1 y1 x2 y2) = cond (eq x1 x2) SameX (Made (coefficients (offset (slope x1 y1 x2 y2) x1 y1) (slope x1 y1 x2 y2) plus_zero))
 
 -- "a candidate not finite or outside the limits, is 0x97"
-unfoldable pub verdictOf : ℕ → Candidate → Verdict
-verdictOf sensor (Made c) = cond (allFinite c) (cond (inLimits sensor c) (Accepted c) (OutsideLimits c)) NotFinite
-verdictOf sensor ZeroX = Undefined
-verdictOf sensor SameX = Undefined
+unfoldable pub verdict_of : ℕ → Candidate → Verdict
+verdict_of sensor (Made c) = cond (all_finite c) (cond (in_limits sensor c) (Accepted c) (OutsideLimits c)) NotFinite
+verdict_of sensor ZeroX = Undefined
+verdict_of sensor SameX = Undefined
 
-unfoldable pub judgedOf : ℕ → Method → Verdict
-judgedOf sensor m = verdictOf sensor (candidateOf m)
+unfoldable pub judged_of : ℕ → Method → Verdict
+judged_of sensor m = verdict_of sensor (candidate_of m)
 
 -- document 01's code for each verdict; 0 is no refusal
 abbrev pub code_of : Verdict → ℕ

@@ -1,6 +1,6 @@
 // The methods of calibration, and the verdict on an update by one of them.
 ghost use Rattle.std.specs.Prelude.{◌≡◌};
-ghost use Rattle.methods.specs.Methods.{methodOf, methodNumber, points_of, candidateOf, verdictOf, judgedOf, code_of};
+ghost use Rattle.methods.specs.Methods.{method_of, method_number, points_of, candidate_of, verdict_of, judged_of, code_of};
 
 use coefficients::{Coefficients, in_limits};
 use refusals::codes;
@@ -45,7 +45,7 @@ pub enum Verdict {
 
 // The method that a method register's number names: 1 and 2, else direct.
 pub fn method_of(number: u16, trial: Coefficients, points: Points) -> Method
-    ensures { result ≡ methodOf number trial points }
+    ensures { result ≡ method_of number trial points }
 {
     match number {
         1 => Method::OnePoint(points.x1, points.y1),
@@ -56,7 +56,7 @@ pub fn method_of(number: u16, trial: Coefficients, points: Points) -> Method
 
 // A method's number in registers and journals.
 pub fn number_of(m: Method) -> u16
-    ensures { result ≡ methodNumber m }
+    ensures { result ≡ method_number m }
 {
     match m {
         Method::Direct(_, _, _) => 0,
@@ -87,7 +87,7 @@ pub fn points_of(m: Method) -> Points
 }
 
 pub fn candidate_of(m: Method) -> Candidate
-    ensures { result ≡ candidateOf m }
+    ensures { result ≡ candidate_of m }
 {
     match m {
         Method::Direct(a, b, c) => Candidate::Made(Coefficients {
@@ -121,7 +121,7 @@ pub fn candidate_of(m: Method) -> Candidate
 
 // The verdict on coefficients for a sensor.
 pub fn verdict_on(sensor: u16, c: Coefficients) -> Verdict
-    ensures { result ≡ verdictOf sensor (Candidate.Made c) }
+    ensures { result ≡ verdict_of sensor (Candidate.Made c) }
 {
     if !c.is_finite() {
         return Verdict::NotFinite;
@@ -135,7 +135,7 @@ pub fn verdict_on(sensor: u16, c: Coefficients) -> Verdict
 
 // The verdict on an update of a sensor by a method.
 pub fn judge(sensor: u16, m: Method) -> Verdict
-    ensures { result ≡ judgedOf sensor m }
+    ensures { result ≡ judged_of sensor m }
 {
     match candidate_of(m) {
         Candidate::Made(c) => verdict_on(sensor, c),

@@ -9,7 +9,7 @@ use borrow.Author.Tests.{eqb-true, ltb-false}
 use lib.Dec.{ltb, eqb, lit<, lit≤}
 use lib.ListN.{length, get_or}
 use Rattle.words.specs.Bytes.{word_at, Bytes}
-use Rattle.modbus.specs.Request.{read_of, writeOneOf, word2Of, writeManyOf, writeMaskOf, requestOf}
+use Rattle.modbus.specs.Request.{read_of, write_one_of, word2_of, write_many_of, write_mask_of, request_of}
 use Rattle.modbus.specs.declared.Value.{Value}
 use Rattle.modbus.specs.declared.Value.TheVariants.{Words, Mask}
 use Rattle.modbus.specs.declared.Request.{Request}
@@ -26,14 +26,14 @@ pub record ReadInRange (body : List ℕ) (start count : ℕ) : Type 0 where
 -- the words of a value are words
 abbrev pub ValueFits : Value → Type 0
 ValueFits (Words word1 word2) = Word word1 × Word word2
-ValueFits (Mask andMask orMask) = Word andMask × Word orMask
+ValueFits (Mask and_mask or_mask) = Word and_mask × Word or_mask
 
 pub record WriteInRange (body : List ℕ) (start count : ℕ) (value : Value) : Type 0 where
   pub long : 6 ≤ length body
   pub start_fits : Bytes body → Word start
   pub least : 1 ≤ count
   pub most : count ≤ 123
-  pub value-fits : Bytes body → ValueFits value
+  pub value_fits : Bytes body → ValueFits value
 
 abbrev pub InRange : List ℕ → Request → Type 0
 InRange body Unsupported = Unit {0}
@@ -53,7 +53,7 @@ module _ (s : List ℕ) where
   pick true m n hm hn = hm
   pick false m n hm hn = hn
 
-  word2 : Bytes s → Word (word2Of s)
+  word2 : Bytes s → Word (word2_of s)
   word2 bytes = pick (ltb (length s) 11) 0 (word_at s 9) (lit< tt) (word 9 bytes)
 
   read : InRange s (read_of s)
@@ -67,9 +67,9 @@ module _ (s : List ℕ) where
       (λ most. record { start_fits = word 2; least = ltb-false (word_at s 4) 1 least; most = ltb-false 125 (word_at s 4) most })))
       (λ t. tt)
 
-  write-one : InRange s (writeOneOf s)
-  unfolding writeOneOf
-  write-one =
+  write_one : InRange s (write_one_of s)
+  unfolding write_one_of
+  write_one =
       either (eqb (length s) 6) _ Malformed
       (λ six.
       record {
@@ -77,14 +77,14 @@ module _ (s : List ℕ) where
         start_fits = word 2;
         least = lit≤ tt;
         most = lit≤ tt;
-        value-fits = λ bytes. (word 4 bytes, lit< tt);
+        value_fits = λ bytes. (word 4 bytes, lit< tt);
       })
       (λ t. tt)
 
-  write-many : InRange s (writeManyOf s)
-  unfolding writeManyOf
-  write-many =
-      let w = Write (word_at s 2) (word_at s 4) (Words (word_at s 7) (word2Of s)) in
+  write_many : InRange s (write_many_of s)
+  unfolding write_many_of
+  write_many =
+      let w = Write (word_at s 2) (word_at s 4) (Words (word_at s 7) (word2_of s)) in
       either (ltb (length s) 9) Malformed _ (λ t. tt)
       (λ nine.
       either (ltb (word_at s 4) 1) Malformed _ (λ t. tt)
@@ -100,14 +100,14 @@ module _ (s : List ℕ) where
         start_fits = word 2;
         least = ltb-false (word_at s 4) 1 least;
         most = ltb-false 123 (word_at s 4) most;
-        value-fits = λ bytes. (word 7 bytes, word2 bytes);
+        value_fits = λ bytes. (word 7 bytes, word2 bytes);
       })
       (λ t. tt))
       (λ t. tt))))
 
-  write-mask : InRange s (writeMaskOf s)
-  unfolding writeMaskOf
-  write-mask =
+  write_mask : InRange s (write_mask_of s)
+  unfolding write_mask_of
+  write_mask =
       either (eqb (length s) 8) _ Malformed
       (λ eight.
       record {
@@ -115,17 +115,17 @@ module _ (s : List ℕ) where
         start_fits = word 2;
         least = lit≤ tt;
         most = lit≤ tt;
-        value-fits = λ bytes. (word 4 bytes, word 6 bytes);
+        value_fits = λ bytes. (word 4 bytes, word 6 bytes);
       })
       (λ t. tt)
 
   -- whatever a body asks for is in range
-  pub in-range : (function : ℕ) → InRange s (requestOf function s)
-  unfolding requestOf
-  in-range function =
+  pub in_range : (function : ℕ) → InRange s (request_of function s)
+  unfolding request_of
+  in_range function =
       either (eqb function 3) (read_of s) _ (λ t. read)
       (λ t.
-      either (eqb function 6) (writeOneOf s) _ (λ u. write-one)
+      either (eqb function 6) (write_one_of s) _ (λ u. write_one)
       (λ u.
-      either (eqb function 16) (writeManyOf s) _ (λ v. write-many)
-      (λ v. either (eqb function 22) (writeMaskOf s) Unsupported (λ w. write-mask) (λ w. tt))))
+      either (eqb function 16) (write_many_of s) _ (λ v. write_many)
+      (λ v. either (eqb function 22) (write_mask_of s) Unsupported (λ w. write_mask) (λ w. tt))))

@@ -11,11 +11,11 @@ use Rattle.modbus.specs.declared.Request.TheVariants.{Unsupported, Malformed, Re
 abbrev pub address_of : List ℕ → ℕ
 address_of body = get_or body 0 0
 
-abbrev pub functionOf : List ℕ → ℕ
-functionOf body = get_or body 1 0
+abbrev pub function_of : List ℕ → ℕ
+function_of body = get_or body 1 0
 
-abbrev pub headerOf : List ℕ → Header
-headerOf body = record { address = address_of body; function = functionOf body }
+abbrev pub header_of : List ℕ → Header
+header_of body = record { address = address_of body; function = function_of body }
 
 -- "count not 1..most" is malformed
 abbrev counted : ℕ → ℕ → Request → Request
@@ -26,34 +26,34 @@ unfoldable pub read_of : List ℕ → Request
 read_of s = cond (eqb (length s) 6) (counted 125 (word_at s 4) (Read (word_at s 2) (word_at s 4))) Malformed
 
 -- function 6: address, 6, register, value
-unfoldable pub writeOneOf : List ℕ → Request
-writeOneOf s = cond (eqb (length s) 6) (Write (word_at s 2) 1 (Words (word_at s 4) 0)) Malformed
+unfoldable pub write_one_of : List ℕ → Request
+write_one_of s = cond (eqb (length s) 6) (Write (word_at s 2) 1 (Words (word_at s 4) 0)) Malformed
 
 -- the second word of function 16; one that isn't sent is 0
-abbrev pub word2Of : List ℕ → ℕ
-word2Of s = cond (ltb (length s) 11) 0 (word_at s 9)
+abbrev pub word2_of : List ℕ → ℕ
+word2_of s = cond (ltb (length s) 11) 0 (word_at s 9)
 
 -- function 16: address, 16, start, count, byte count = 2 × count, then that many bytes, at least two. A field has at most two words, so the
 -- first two are all that a layer above can want.
-unfoldable pub writeManyOf : List ℕ → Request
-writeManyOf s =
+unfoldable pub write_many_of : List ℕ → Request
+write_many_of s =
     cond (ltb (length s) 9) Malformed
     (counted 123 (word_at s 4)
     (cond (eqb (get_or s 6 0) (2 * word_at s 4))
-    (cond (eqb (length s) (7 + get_or s 6 0)) (Write (word_at s 2) (word_at s 4) (Words (word_at s 7) (word2Of s))) Malformed)
+    (cond (eqb (length s) (7 + get_or s 6 0)) (Write (word_at s 2) (word_at s 4) (Words (word_at s 7) (word2_of s))) Malformed)
     Malformed))
 
 -- function 22: address, 22, register, and-mask, or-mask; a write of one register
-unfoldable pub writeMaskOf : List ℕ → Request
-writeMaskOf s = cond (eqb (length s) 8) (Write (word_at s 2) 1 (Mask (word_at s 4) (word_at s 6))) Malformed
+unfoldable pub write_mask_of : List ℕ → Request
+write_mask_of s = cond (eqb (length s) 8) (Write (word_at s 2) 1 (Mask (word_at s 4) (word_at s 6))) Malformed
 
 -- "Functions 3, 6, 16, 22"; code 1 before any look at the length
-unfoldable pub requestOf : ℕ → List ℕ → Request
-requestOf function s =
+unfoldable pub request_of : ℕ → List ℕ → Request
+request_of function s =
     cond (eqb function 3) (read_of s)
-    (cond (eqb function 6) (writeOneOf s)
-    (cond (eqb function 16) (writeManyOf s)
-    (cond (eqb function 22) (writeMaskOf s)
+    (cond (eqb function 6) (write_one_of s)
+    (cond (eqb function 16) (write_many_of s)
+    (cond (eqb function 22) (write_mask_of s)
     Unsupported)))
 
 -- document 01's code for each request that is refused here; 0 is no refusal

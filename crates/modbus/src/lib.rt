@@ -1,6 +1,6 @@
 // What a body of bytes asks for: functions 3, 6, 16 and 22. Nothing here knows which registers exist or what they mean.
 ghost use Rattle.std.specs.Prelude.{◌≡◌, get_or};
-ghost use Rattle.modbus.specs.Request.{headerOf, requestOf, read_of, writeOneOf, writeManyOf, writeMaskOf, code_of};
+ghost use Rattle.modbus.specs.Request.{header_of, request_of, read_of, write_one_of, write_many_of, write_mask_of, code_of};
 
 use refusals::codes;
 
@@ -49,7 +49,7 @@ fn byte_at(body: &[u8], i: usize) -> u8
 }
 
 pub fn header_of(body: &[u8]) -> Header
-    ensures { result ≡ headerOf body.now }
+    ensures { result ≡ header_of body.now }
 {
     Header {
         address: byte_at(body, 0),
@@ -59,7 +59,7 @@ pub fn header_of(body: &[u8]) -> Header
 
 // What a body with this function asks for.
 pub fn decode_request(function: u8, body: &[u8]) -> Request
-    ensures { result ≡ requestOf function body.now }
+    ensures { result ≡ request_of function body.now }
 {
     match function {
         3 => decode_read(body),
@@ -90,7 +90,7 @@ fn decode_read(body: &[u8]) -> Request
 
 // Function 6: register and value.
 fn decode_write_one(body: &[u8]) -> Request
-    ensures { result ≡ writeOneOf body.now }
+    ensures { result ≡ write_one_of body.now }
 {
     if body.len() != 6 {
         return Request::Malformed;
@@ -106,7 +106,7 @@ fn decode_write_one(body: &[u8]) -> Request
 
 // Function 16: start, count, byte count and the values.
 fn decode_write_many(body: &[u8]) -> Request
-    ensures { result ≡ writeManyOf body.now }
+    ensures { result ≡ write_many_of body.now }
 {
     let n = body.len();
     if n < 9 {
@@ -145,7 +145,7 @@ fn decode_write_many(body: &[u8]) -> Request
 
 // Function 22: register, and-mask, or-mask.
 fn decode_write_mask(body: &[u8]) -> Request
-    ensures { result ≡ writeMaskOf body.now }
+    ensures { result ≡ write_mask_of body.now }
 {
     if body.len() != 8 {
         return Request::Malformed;

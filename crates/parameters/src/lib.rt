@@ -1,6 +1,6 @@
 // The parameters that the sensors give: their ids, their units, and the conversion to a unit.
 ghost use Rattle.std.specs.Prelude.{◌≡◌};
-ghost use Rattle.parameters.specs.Parameters.{count_of, id_of, defaultUnits, unitsAllowed, availableUnits, levelAllowed, converted};
+ghost use Rattle.parameters.specs.Parameters.{count_of, id_of, default_units, units_allowed, available_units, level_allowed, converted};
 
 // The number of a sensor's parameters.
 pub fn count(sensor: u16) -> u16
@@ -45,7 +45,7 @@ pub fn parameter_id(sensor: u16, k: u16) -> u16
 
 // The units that a parameter has when fresh.
 pub fn default_units(id: u16) -> u16
-    ensures { result ≡ defaultUnits id }
+    ensures { result ≡ default_units id }
 {
     match id {
         1 => 1,
@@ -61,7 +61,7 @@ pub fn default_units(id: u16) -> u16
 
 // Whether the table lists these units for the parameter.
 pub fn units_allowed(id: u16, units: u16) -> bool
-    ensures { result ≡ unitsAllowed id units }
+    ensures { result ≡ units_allowed id units }
 {
     match id {
         1 => (units == 1) | (units == 2),
@@ -77,7 +77,7 @@ pub fn units_allowed(id: u16, units: u16) -> bool
 
 // The word that lists the units.
 pub fn available_units(id: u16) -> u16
-    ensures { result ≡ availableUnits id }
+    ensures { result ≡ available_units id }
 {
     match id {
         1 => 0x0003,
@@ -93,7 +93,7 @@ pub fn available_units(id: u16) -> u16
 
 // The ids that the level may have.
 pub fn level_allowed(id: u16) -> bool
-    ensures { result ≡ levelAllowed id }
+    ensures { result ≡ level_allowed id }
 {
     (3 <= id) & (id <= 5)
 }

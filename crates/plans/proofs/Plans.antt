@@ -7,21 +7,21 @@ use lib.Dec.{eqb}
 use lib.ListN.{length}
 use borrow.Author.Tests.{eqb-false}
 use Rattle.floats.proofs.Bools.{choose}
-use Rattle.modbus.specs.Request.{requestOf}
+use Rattle.modbus.specs.Request.{request_of}
 use Rattle.modbus.specs.declared.Header.{Header}
 use Rattle.modbus.specs.declared.Request.{Request}
 use Rattle.modbus.specs.declared.Request.TheVariants.{Unsupported, Malformed, Read, Write}
-use Rattle.modbus.proofs.Requests.{InRange, in-range}
-use Rattle.fields.specs.Fields.{field_at, allFound, span_of}
+use Rattle.modbus.proofs.Requests.{InRange, in_range}
+use Rattle.fields.specs.Fields.{field_at, all_found, span_of}
 use Rattle.fields.specs.declared.Field.{Field}
 use Rattle.fields.specs.Fields.Found.{Row}
 use Rattle.fields.specs.declared.Span.{Span}
 use Rattle.fields.specs.declared.Span.TheVariants.{Whole, Mismatch, Gap}
 use Rattle.fields.proofs.Registers.{whole_row}
-use Rattle.fields.proofs.Runs.{all-found-ends, all-found-block}
-use Rattle.fields.proofs.Spans.{Says, span-says}
-use Rattle.fields.proofs.Writable.{found-owner, device-written}
-use Rattle.plans.specs.Plans.{targetIn, target_of, readPlanIn, readPlan, writePlan, requestPlan, plan_of}
+use Rattle.fields.proofs.Runs.{all_found_ends, all_found_block}
+use Rattle.fields.proofs.Spans.{Says, span_says}
+use Rattle.fields.proofs.Writable.{found_owner, device_written_lem}
+use Rattle.plans.specs.Plans.{target_in, target_of, read_plan_in, read_plan, write_plan, request_plan, plan_of}
 use Rattle.plans.specs.declared.Target.{Target}
 use Rattle.plans.specs.declared.Target.TheVariants.{Unfit, Writable}
 use Rattle.plans.specs.declared.Plan.{Plan}
@@ -30,12 +30,12 @@ use Rattle.plans.specs.declared.Plan.TheVariants.{Bad, Foreign, BroadcastRead, R
 -- a field that a write goes to: the register where it begins, and whose it is
 pub record Located (count owner : ℕ) (f : Field) : Type 0 where
   pub register : ℕ
-  pub owner-is : register / 100 ≡ owner
+  pub owner_is : register / 100 ≡ owner
   pub field : field_at register ≡ Row f
   pub begins : f.offset ≡ register % 100
   pub all : f.words ≡ count
   pub writable : f.access ≡ 0 → ⊥
-  pub owner-most : owner ≤ 4
+  pub owner_most : owner ≤ 4
   -- the device's is the technician's number
   pub device : owner ≡ 0 → f.offset ≡ 9
 
@@ -64,63 +64,63 @@ Fit count (Unfit code) = Unit {0}
 Fit count (Writable owner f) = Located count owner f
 
 module _ (start count : ℕ) where
-  span-fit : (x : Span) → Says start count x → Fit count (targetIn (start / 100) x)
-  span-fit (Whole f) s =
+  span_fit : (x : Span) → Says start count x → Fit count (target_in (start / 100) x)
+  span_fit (Whole f) s =
       choose (Fit count) (eqb f.access 0) (Unfit 0xC2) (Writable (start / 100) f) (λ t. tt)
       (λ t.
       let w = whole_row start count f s.1 in
       let n = eqb-false f.access 0 t in
       record {
         register = start;
-        owner-is = refl;
+        owner_is = refl;
         field = w.field;
         begins = w.begins;
         all = w.all;
         writable = n;
-        owner-most = found-owner start f w.field;
-        device = device-written start f w.field n;
+        owner_most = found_owner start f w.field;
+        device = device_written_lem start f w.field n;
       })
-  span-fit Mismatch s = tt
-  span-fit Gap s = tt
+  span_fit Mismatch s = tt
+  span_fit Gap s = tt
 
-  target-fit : Fit count (target_of start count)
+  target_fit : Fit count (target_of start count)
   unfolding target_of
-  target-fit = span-fit (span_of start count) (span-says start count)
+  target_fit = span_fit (span_of start count) (span_says start count)
 
 -- ---- the plan
 
 module _ (body : List ℕ) where
-  read-facts : (start count : ℕ) → 1 ≤ count → count ≤ 125 → Facts body (readPlan start count)
-  unfolding readPlan
-  read-facts start count h k = go (span_of start count) (span-says start count)
+  read_facts : (start count : ℕ) → 1 ≤ count → count ≤ 125 → Facts body (read_plan start count)
+  unfolding read_plan
+  read_facts start count h k = go (span_of start count) (span_says start count)
     where
-      reads : allFound start count ≡ true → Reads start count
-      reads e = record { least = h; most = k; ends = all-found-ends start count e h; block = all-found-block start count e }
+      reads : all_found start count ≡ true → Reads start count
+      reads e = record { least = h; most = k; ends = all_found_ends start count e h; block = all_found_block start count e }
 
-      go : (x : Span) → Says start count x → Facts body (readPlanIn start count x)
+      go : (x : Span) → Says start count x → Facts body (read_plan_in start count x)
       go (Whole f) s = reads s.0
       go Mismatch s = reads s
       go Gap s = tt
 
-  request-facts : (r : Request) → InRange body r → Facts body (requestPlan r)
-  request-facts Unsupported h = tt
-  request-facts Malformed h = tt
-  request-facts (Read start count) h = read-facts start count h.least h.most
-  request-facts (Write start count value) h = go (target_of start count) (target-fit start count)
+  request_facts : (r : Request) → InRange body r → Facts body (request_plan r)
+  request_facts Unsupported h = tt
+  request_facts Malformed h = tt
+  request_facts (Read start count) h = read_facts start count h.least h.most
+  request_facts (Write start count value) h = go (target_of start count) (target_fit start count)
     where
-      go : (t : Target) → Fit count t → Facts body (writePlan value t)
+      go : (t : Target) → Fit count t → Facts body (write_plan value t)
       go (Unfit code) l = tt
       go (Writable owner f) l = record { located = subst (λ (n : ℕ). Located n owner f) (sym l.all) l; long = h.long }
 
 -- whatever a body asks for has the facts of its plan
-pub plan-facts : (own : ℕ) (h : Header) (body : List ℕ) → Facts body (plan_of own h body)
+pub plan_facts : (own : ℕ) (h : Header) (body : List ℕ) → Facts body (plan_of own h body)
 unfolding plan_of
-plan-facts own h body =
-    let p = requestPlan (requestOf h.function body) in
-    let r = request-facts body (requestOf h.function body) (in-range body h.function) in
+plan_facts own h body =
+    let p = request_plan (request_of h.function body) in
+    let r = request_facts body (request_of h.function body) (in_range body h.function) in
     choose (Facts body) (eqb h.address 0) _ _ (λ z. choose (Facts body) (eqb h.function 3) BroadcastRead p (λ t. tt) (λ t. r))
     (λ z. choose (Facts body) (eqb h.address own) p Foreign (λ t. r) (λ t. tt))
 
 -- the facts of a plan that is known
-pub facts-of : (own : ℕ) (h : Header) (body : List ℕ) {p : Plan} → plan_of own h body ≡ p → Facts body p
-facts-of own h body e = subst (Facts body) e (plan-facts own h body)
+pub facts_of : (own : ℕ) (h : Header) (body : List ℕ) {p : Plan} → plan_of own h body ≡ p → Facts body p
+facts_of own h body e = subst (Facts body) e (plan_facts own h body)

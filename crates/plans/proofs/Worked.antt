@@ -1,20 +1,20 @@
 -- Writes judged on the map alone, worked out by computation. Assumes nothing.
 use mathlib.Core.Path.{◌≡◌, refl}
-use Rattle.fields.specs.Fields.{field, ownerBit, owns, holds, exactly, field_at, wholeField, span_of}
+use Rattle.fields.specs.Fields.{field, owner_bit, owns, holds, exactly, field_at, whole_field, span_of}
 use Rattle.plans.specs.Plans.{target_of}
 use Rattle.plans.specs.declared.Target.TheVariants.{Unfit, Writable}
 
 pub record Worked : Type 0 where
   -- read-only: the device's clock
-  pub clock-read-only : target_of 2 2 ≡ Unfit 0xC2
+  pub clock_read_only : target_of 2 2 ≡ Unfit 0xC2
   -- absent before no whole field: half of a field and a register that sensor 3 lacks
-  pub half-and-absent : target_of 315 2 ≡ Unfit 2
+  pub half_and_absent : target_of 315 2 ≡ Unfit 2
   -- the device's register 9 is a whole field that can be written; with register 8 it is none, and register 10 is absent
   pub technician : target_of 9 1 ≡ Writable 0 (field 9 1 1 1)
-  pub used-and-technician : target_of 8 2 ≡ Unfit 0x80
-  pub technician-and-absent : target_of 9 2 ≡ Unfit 2
+  pub used_and_technician : target_of 8 2 ≡ Unfit 0x80
+  pub technician_and_absent : target_of 9 2 ≡ Unfit 2
 
 -- by computation
 pub worked : Worked
-unfolding target_of span_of wholeField exactly field_at holds owns ownerBit
-worked = record { clock-read-only = refl; half-and-absent = refl; technician = refl; used-and-technician = refl; technician-and-absent = refl }
+unfolding target_of span_of whole_field exactly field_at holds owns owner_bit
+worked = record { clock_read_only = refl; half_and_absent = refl; technician = refl; used_and_technician = refl; technician_and_absent = refl }

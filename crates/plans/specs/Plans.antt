@@ -2,12 +2,12 @@
 -- control book. Document 01, "Frames" and the codes of "What is sent back" that need no value: 1, 3, 2, 0x80, 0xC2, in that order.
 -- Assumes nothing.
 use Rattle.std.specs.Prelude.{cond, List, ℕ, ◌/◌, eqb}
-use Rattle.modbus.specs.Request.{requestOf, code_of}
+use Rattle.modbus.specs.Request.{request_of, code_of}
 use Rattle.modbus.specs.declared.Header.{Header}
 use Rattle.modbus.specs.declared.Value.{Value}
 use Rattle.modbus.specs.declared.Request.{Request}
 use Rattle.modbus.specs.declared.Request.TheVariants.{Unsupported, Malformed, Read, Write}
-use Rattle.fields.specs.Fields.{span_of, code_of as spanCode}
+use Rattle.fields.specs.Fields.{span_of, code_of as span_code}
 use Rattle.fields.specs.declared.Span.{Span}
 use Rattle.fields.specs.declared.Span.TheVariants.{Whole, Mismatch, Gap}
 use Rattle.plans.specs.declared.Target.{Target}
@@ -16,37 +16,37 @@ use Rattle.plans.specs.declared.Plan.{Plan}
 use Rattle.plans.specs.declared.Plan.TheVariants.{Foreign, BroadcastRead, Refused, Reading, Writing}
 
 -- "2: a register named is absent, or past 0xFFFF", then "0x80: a write isn't exactly one whole field", then "0xC2: read-only"
-abbrev pub targetIn : ℕ → Span → Target
-targetIn owner (Whole f) = cond (eqb f.access 0) (Unfit 0xC2) (Writable owner f)
-targetIn owner Mismatch = Unfit (spanCode Mismatch)
-targetIn owner Gap = Unfit (spanCode Gap)
+abbrev pub target_in : ℕ → Span → Target
+target_in owner (Whole f) = cond (eqb f.access 0) (Unfit 0xC2) (Writable owner f)
+target_in owner Mismatch = Unfit (span_code Mismatch)
+target_in owner Gap = Unfit (span_code Gap)
 
 -- "Sensor s begins at 100 × s": the owner is the register's hundred, 0 for the device
 unfoldable pub target_of : ℕ → ℕ → Target
-target_of start count = targetIn (start / 100) (span_of start count)
+target_of start count = target_in (start / 100) (span_of start count)
 
 -- a read may begin or end inside a field; none of its registers may be absent
-abbrev pub readPlanIn : ℕ → ℕ → Span → Plan
-readPlanIn start count (Whole f) = Reading start count
-readPlanIn start count Mismatch = Reading start count
-readPlanIn start count Gap = Refused (spanCode Gap)
+abbrev pub read_plan_in : ℕ → ℕ → Span → Plan
+read_plan_in start count (Whole f) = Reading start count
+read_plan_in start count Mismatch = Reading start count
+read_plan_in start count Gap = Refused (span_code Gap)
 
-unfoldable pub readPlan : ℕ → ℕ → Plan
-readPlan start count = readPlanIn start count (span_of start count)
+unfoldable pub read_plan : ℕ → ℕ → Plan
+read_plan start count = read_plan_in start count (span_of start count)
 
-abbrev pub writePlan : Value → Target → Plan
-writePlan value (Unfit code) = Refused code
-writePlan value (Writable owner f) = Writing owner f value
+abbrev pub write_plan : Value → Target → Plan
+write_plan value (Unfit code) = Refused code
+write_plan value (Writable owner f) = Writing owner f value
 
 -- codes 1 and 3 are the request's own
-abbrev pub requestPlan : Request → Plan
-requestPlan Unsupported = Refused (code_of Unsupported)
-requestPlan Malformed = Refused (code_of Malformed)
-requestPlan (Read start count) = readPlan start count
-requestPlan (Write start count value) = writePlan value (target_of start count)
+abbrev pub request_plan : Request → Plan
+request_plan Unsupported = Refused (code_of Unsupported)
+request_plan Malformed = Refused (code_of Malformed)
+request_plan (Read start count) = read_plan start count
+request_plan (Write start count value) = write_plan value (target_of start count)
 
 -- "Address 0 .. writes are carried out, function 3 counts good and nothing else happens", "another's address counts nothing"
 unfoldable pub plan_of : ℕ → Header → List ℕ → Plan
 plan_of own h body =
-    cond (eqb h.address 0) (cond (eqb h.function 3) BroadcastRead (requestPlan (requestOf h.function body)))
-    (cond (eqb h.address own) (requestPlan (requestOf h.function body)) Foreign)
+    cond (eqb h.address 0) (cond (eqb h.function 3) BroadcastRead (request_plan (request_of h.function body)))
+    (cond (eqb h.address own) (request_plan (request_of h.function body)) Foreign)

@@ -1,7 +1,7 @@
 // What a body asks of a sonde: its address, then the map of registers. Everything here is judged before any value is looked at, so the
 // control book and the frame call share it.
 ghost use Rattle.std.specs.Prelude.{◌≡◌};
-ghost use Rattle.plans.specs.Plans.{target_of, readPlan, writePlan, requestPlan, plan_of};
+ghost use Rattle.plans.specs.Plans.{target_of, read_plan, write_plan, request_plan, plan_of};
 
 use fields::{Field, READ_ONLY, Span};
 use modbus::{Header, Request, Value};
@@ -58,7 +58,7 @@ fn target_of(start: u16, count: u16) -> Target
 
 // A read may begin or end inside a field.
 fn plan_read(start: u16, count: u16) -> Plan
-    ensures { result ≡ readPlan start count }
+    ensures { result ≡ read_plan start count }
 {
     let span = lookup::span(start, count);
     match span {
@@ -69,7 +69,7 @@ fn plan_read(start: u16, count: u16) -> Plan
 }
 
 fn plan_write(start: u16, count: u16, value: Value) -> Plan
-    ensures { result ≡ writePlan value (target_of start count) }
+    ensures { result ≡ write_plan value (target_of start count) }
 {
     match target_of(start, count) {
         Target::Unfit(code) => Plan::Refused(code),
@@ -83,7 +83,7 @@ fn plan_write(start: u16, count: u16, value: Value) -> Plan
 
 // A request, judged on the map.
 fn plan_request(request: Request) -> Plan
-    ensures { result ≡ requestPlan request }
+    ensures { result ≡ request_plan request }
 {
     match request {
         Request::Unsupported => Plan::Refused(modbus::code_of(request)),

@@ -9,84 +9,84 @@ use lib.ListN.{length}
 use borrow.Author.Tests.{eq-eqb, ne_eqb, le-leb, lt-leb}
 use Rattle.words.specs.Bytes.{words_of}
 use Rattle.words.specs.Overlay.{overlay}
-use Rattle.journal.specs.Contents.{journalOf}
+use Rattle.journal.specs.Contents.{journal_of}
 use Rattle.journal.specs.Valid.{valid}
 use Rattle.columns.specs.Text.{characters}
 use Rattle.page.specs.Page.{page_of}
-use Rattle.page.specs.Print.{Printed, printOf}
-use Rattle.page.proofs.Print.{print-invalid, print-done}
+use Rattle.page.specs.Print.{Printed, print_of}
+use Rattle.page.proofs.Print.{print_invalid, print_done}
 use Rattle.printing.proofs.Left.{room}
-use Rattle.printing.proofs.Lines.{page-length}
-use Rattle.printout.specs.Printout.{printable, unsound, printoutOf}
+use Rattle.printing.proofs.Lines.{page_length}
+use Rattle.printout.specs.Printout.{printable, unsound, printout_of}
 
 -- ---- the file's length
 
-pub odd-file : (b : List ℕ) → (length b % 2 ≡ 0 → ⊥) → printoutOf b ≡ unsound
-unfolding printoutOf printable
-odd-file b h = rw (ne_eqb (length b % 2) 0 h)
+pub odd_file : (b : List ℕ) → (length b % 2 ≡ 0 → ⊥) → printout_of b ≡ unsound
+unfolding printout_of printable
+odd_file b h = rw (ne_eqb (length b % 2) 0 h)
 
-pub long-file : (b : List ℕ) → 48128 < length b → printoutOf b ≡ unsound
-unfolding printoutOf printable
-long-file b h = go (eqb (length b % 2) 0)
+pub long_file : (b : List ℕ) → 48128 < length b → printout_of b ≡ unsound
+unfolding printout_of printable
+long_file b h = go (eqb (length b % 2) 0)
   where
-    go : (e : Bool) → cond (e && leb (length b) 48128 && valid (words_of b)) (page_of (journalOf (words_of b))) unsound ≡ unsound
+    go : (e : Bool) → cond (e && leb (length b) 48128 && valid (words_of b)) (page_of (journal_of (words_of b))) unsound ≡ unsound
     go true = rw (lt-leb (length b) 48128 h)
     go false = refl
 
 -- any other file is printed by its words
-pub even-file : (b : List ℕ) → length b % 2 ≡ 0 → length b ≤ 48128 → printoutOf b ≡ cond (valid (words_of b)) (page_of (journalOf (words_of b))) unsound
-unfolding printoutOf printable
-even-file b e h = rw (eq-eqb (length b % 2) 0 e, le-leb (length b) 48128 h)
+pub even_file : (b : List ℕ) → length b % 2 ≡ 0 → length b ≤ 48128 → printout_of b ≡ cond (valid (words_of b)) (page_of (journal_of (words_of b))) unsound
+unfolding printout_of printable
+even_file b e h = rw (eq-eqb (length b % 2) 0 e, le-leb (length b) 48128 h)
 
 -- ---- the print of its words, on a page that has room for every journal
 
-page-most : (w : List ℕ) → valid w ≡ true → length (page_of (journalOf w)) ≤ 53212
-page-most w v = omega (arith, page-length w, (room w v).most)
+page_most : (w : List ℕ) → valid w ≡ true → length (page_of (journal_of w)) ≤ 53212
+page_most w v = omega (arith, page_length w, (room w v).most)
 
-print-fits : (w out : List ℕ) → 53212 ≤ length out → valid w ≡ true
-    → printOf w out ≡ record { number = 0; length = length (page_of (journalOf w)); page = overlay (page_of (journalOf w)) out }
-print-fits w out h v = print-done w out v (omega (arith, page-most w v))
+print_fits : (w out : List ℕ) → 53212 ≤ length out → valid w ≡ true
+    → print_of w out ≡ record { number = 0; length = length (page_of (journal_of w)); page = overlay (page_of (journal_of w)) out }
+print_fits w out h v = print_done w out v (omega (arith, page_most w v))
 
 -- a number means that the words aren't valid, and nothing was written
-pub refused-left : (w out page : List ℕ) (n l : ℕ) → 53212 ≤ length out → ◌≡◌ {A = Printed} (record { number = n; length = l; page = page }) (printOf w out)
+pub refused_left : (w out page : List ℕ) (n l : ℕ) → 53212 ≤ length out → ◌≡◌ {A = Printed} (record { number = n; length = l; page = page }) (print_of w out)
     → (n ≡ 0 → ⊥) → (valid w ≡ false) × (page ≡ out)
-refused-left w out page n l h e z = go (valid w) refl
+refused_left w out page n l h e z = go (valid w) refl
   where
     go : (v : Bool) → valid w ≡ v → (valid w ≡ false) × (page ≡ out)
-    go true v = absurd (z (ap (λ (p : Printed). p.number) (e ∙ print-fits w out h v)))
-    go false v = (v, ap (λ (p : Printed). p.page) (e ∙ print-invalid w out v))
+    go true v = absurd (z (ap (λ (p : Printed). p.number) (e ∙ print_fits w out h v)))
+    go false v = (v, ap (λ (p : Printed). p.page) (e ∙ print_invalid w out v))
 
 -- number 0 means that the page was
-pub printed-left : (w out page : List ℕ) (n l : ℕ) → 53212 ≤ length out → ◌≡◌ {A = Printed} (record { number = n; length = l; page = page }) (printOf w out)
-    → n ≡ 0 → (valid w ≡ true) × (page ≡ overlay (page_of (journalOf w)) out) × (l ≡ length (page_of (journalOf w))) × (l ≤ 53212)
-printed-left w out page n l h e z = go (valid w) refl
+pub printed_left : (w out page : List ℕ) (n l : ℕ) → 53212 ≤ length out → ◌≡◌ {A = Printed} (record { number = n; length = l; page = page }) (print_of w out)
+    → n ≡ 0 → (valid w ≡ true) × (page ≡ overlay (page_of (journal_of w)) out) × (l ≡ length (page_of (journal_of w))) × (l ≤ 53212)
+printed_left w out page n l h e z = go (valid w) refl
   where
-    go : (v : Bool) → valid w ≡ v → (valid w ≡ true) × (page ≡ overlay (page_of (journalOf w)) out) × (l ≡ length (page_of (journalOf w))) × (l ≤ 53212)
+    go : (v : Bool) → valid w ≡ v → (valid w ≡ true) × (page ≡ overlay (page_of (journal_of w)) out) × (l ≡ length (page_of (journal_of w))) × (l ≤ 53212)
     go true v =
-        let q = e ∙ print-fits w out h v in
+        let q = e ∙ print_fits w out h v in
         let k = ap (λ (p : Printed). p.length) q in
-        (v, ap (λ (p : Printed). p.page) q, k, omega (arith, k, page-most w v))
-    go false v = absurd (omega (arith, ap (λ (p : Printed). p.number) (e ∙ print-invalid w out v)))
+        (v, ap (λ (p : Printed). p.page) q, k, omega (arith, k, page_most w v))
+    go false v = absurd (omega (arith, ap (λ (p : Printed). p.number) (e ∙ print_invalid w out v)))
 
 -- ---- what is left in the buffer, and its length
 
-pub unsound-left : (b out left : List ℕ) (r : ℕ) → printoutOf b ≡ unsound → (left ≡ overlay unsound out) × (r ≡ 8)
-    → (left ≡ overlay (printoutOf b) out) × ((r ≡ length (printoutOf b)) × (r ≤ 53212))
+pub unsound-left : (b out left : List ℕ) (r : ℕ) → printout_of b ≡ unsound → (left ≡ overlay unsound out) × (r ≡ 8)
+    → (left ≡ overlay (printout_of b) out) × ((r ≡ length (printout_of b)) × (r ≤ 53212))
 unfolding characters
 unsound-left b out left r e p = rw e (p.0, (p.1, omega (arith, p.1)))
 
-pub file-refused : (b w out page left : List ℕ) (n l r : ℕ) → w ≡ words_of b → length b % 2 ≡ 0 → length b ≤ 48128 → 53212 ≤ length out
-    → ◌≡◌ {A = Printed} (record { number = n; length = l; page = page }) (printOf w out) → (n ≡ 0 → ⊥) → (left ≡ overlay unsound page) × (r ≡ 8)
-    → (left ≡ overlay (printoutOf b) out) × ((r ≡ length (printoutOf b)) × (r ≤ 53212))
-file-refused b w out page left n l r i e m h p z q =
-    let k = refused-left w out page n l h p z in
-    let u : printoutOf b ≡ unsound = even-file b e m ∙ rw (← i, k.0) refl in
+pub file_refused : (b w out page left : List ℕ) (n l r : ℕ) → w ≡ words_of b → length b % 2 ≡ 0 → length b ≤ 48128 → 53212 ≤ length out
+    → ◌≡◌ {A = Printed} (record { number = n; length = l; page = page }) (print_of w out) → (n ≡ 0 → ⊥) → (left ≡ overlay unsound page) × (r ≡ 8)
+    → (left ≡ overlay (printout_of b) out) × ((r ≡ length (printout_of b)) × (r ≤ 53212))
+file_refused b w out page left n l r i e m h p z q =
+    let k = refused_left w out page n l h p z in
+    let u : printout_of b ≡ unsound = even_file b e m ∙ rw (← i, k.0) refl in
     unsound-left b out left r u (rw (← k.1) q.0, q.1)
 
-pub file-printed : (b w out page : List ℕ) (n l : ℕ) → w ≡ words_of b → length b % 2 ≡ 0 → length b ≤ 48128 → 53212 ≤ length out
-    → ◌≡◌ {A = Printed} (record { number = n; length = l; page = page }) (printOf w out) → n ≡ 0
-    → (page ≡ overlay (printoutOf b) out) × ((l ≡ length (printoutOf b)) × (l ≤ 53212))
-file-printed b w out page n l i e m h p z =
-    let k = printed-left w out page n l h p z in
-    let u : printoutOf b ≡ page_of (journalOf w) = even-file b e m ∙ rw (← i, k.0) refl in
+pub file_printed : (b w out page : List ℕ) (n l : ℕ) → w ≡ words_of b → length b % 2 ≡ 0 → length b ≤ 48128 → 53212 ≤ length out
+    → ◌≡◌ {A = Printed} (record { number = n; length = l; page = page }) (print_of w out) → n ≡ 0
+    → (page ≡ overlay (printout_of b) out) × ((l ≡ length (printout_of b)) × (l ≤ 53212))
+file_printed b w out page n l i e m h p z =
+    let k = printed_left w out page n l h p z in
+    let u : printout_of b ≡ page_of (journal_of w) = even_file b e m ∙ rw (← i, k.0) refl in
     rw u (k.1, (k.2, k.3))

@@ -17,9 +17,9 @@ words_left b i h =
     rw (drop-cons b (2 * i) 0 (omega arith), m, drop-cons b (2 * i + 1) 0 h, n)
 
 -- a turn
-pub words-again : (v b : List ℕ) (i x : ℕ) (all : List ℕ) → 2 * i + 1 < length b → x ≡ word_at b (2 * i) → sets v i (words_of (drop (2 * i) b)) ≡ all
+pub words_again : (v b : List ℕ) (i x : ℕ) (all : List ℕ) → 2 * i + 1 < length b → x ≡ word_at b (2 * i) → sets v i (words_of (drop (2 * i) b)) ≡ all
     → sets (set v i x) (i + 1) (words_of (drop (2 * (i + 1)) b)) ≡ all
-words-again v b i x all h e k = rw (add-one i, e) (rw (words_left b i h, add-one i) at k)
+words_again v b i x all h e k = rw (add-one i, e) (rw (words_left b i h, add-one i) at k)
 
 no_word : (s : List ℕ) → length s < 2 → words_of s ≡ []
 unfolding words_of
@@ -28,21 +28,21 @@ no_word (a ∷ []) h = refl
 no_word (a ∷ c ∷ s) h = absurd (omega arith)
 
 -- none are left behind the last
-pub words-done : (v b : List ℕ) (i : ℕ) (all : List ℕ) → length b / 2 ≤ i → sets v i (words_of (drop (2 * i) b)) ≡ all → v ≡ all
-words-done v b i all h k =
+pub words_done : (v b : List ℕ) (i : ℕ) (all : List ℕ) → length b / 2 ≤ i → sets v i (words_of (drop (2 * i) b)) ≡ all → v ≡ all
+words_done v b i all h k =
     let n : words_of (drop (2 * i) b) ≡ [] = no_word (drop (2 * i) b) (omega (arith, length-drop (2 * i) b)) in
     rw n at k
 
 -- two bytes make a word
-pub words-length : (b : List ℕ) → length (words_of b) ≡ length b / 2
+pub words_length : (b : List ℕ) → length (words_of b) ≡ length b / 2
 unfolding words_of
-words-length [] = refl
-words-length (a ∷ []) = refl
-words-length (a ∷ c ∷ s) = omega (arith, words-length s)
+words_length [] = refl
+words_length (a ∷ []) = refl
+words_length (a ∷ c ∷ s) = omega (arith, words_length s)
 
 -- the words that were stored, read again
-pub words-stored : (v b : List ℕ) (n : ℕ) → length b / 2 ≡ n → n ≤ length v → take n (sets v 0 (words_of b)) ≡ words_of b
-words-stored v b n e h =
-    let l : length (words_of b) ≡ n = words-length b ∙ e in
+pub words_stored : (v b : List ℕ) (n : ℕ) → length b / 2 ≡ n → n ≤ length v → take n (sets v 0 (words_of b)) ≡ words_of b
+words_stored v b n e h =
+    let l : length (words_of b) ≡ n = words_length b ∙ e in
     let room : 0 + length (words_of b) ≤ length v = omega arith in
     ap (take n) (sets-eq (words_of b) v 0 room) ∙ take_at (words_of b) (drop (0 + length (words_of b)) v) n l

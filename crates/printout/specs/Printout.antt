@@ -2,7 +2,7 @@
 -- word high byte first; an unsound one, an odd number of bytes or more than 48128 bytes prints UNSOUND and LF alone". Assumes nothing.
 use Rattle.std.specs.Prelude.{◌≡◌, Bool, true, false, cond, ◌&&◌, List, ◌↔◌, ℕ, ◌%◌, eqb, leb, length}
 use Rattle.words.specs.Bytes.{Bytes, words_of}
-use Rattle.journal.specs.Contents.{journalOf}
+use Rattle.journal.specs.Contents.{journal_of}
 use Rattle.journal.specs.Valid.{valid}
 use Rattle.columns.specs.Text.{characters}
 use Rattle.page.specs.Alike.{AgreeOnPaper}
@@ -16,17 +16,17 @@ printable bytes = eqb (length bytes % 2) 0 && leb (length bytes) 48128 && valid 
 abbrev pub unsound : List ℕ
 unsound = characters "UNSOUND\n"
 
-unfoldable pub printoutOf : List ℕ → List ℕ
-printoutOf bytes = cond (printable bytes) (page_of (journalOf (words_of bytes))) unsound
+unfoldable pub printout_of : List ℕ → List ℕ
+printout_of bytes = cond (printable bytes) (page_of (journal_of (words_of bytes))) unsound
 
 -- ---- what can be told from a printout
 
 -- UNSOUND is printed for no file that is printable, and for every other
 abbrev pub UnsoundAlone : Type 0
-UnsoundAlone = (bytes : List ℕ) → (printoutOf bytes ≡ unsound) ↔ (printable bytes ≡ false)
+UnsoundAlone = (bytes : List ℕ) → (printout_of bytes ≡ unsound) ↔ (printable bytes ≡ false)
 
 -- "Two sound volumes of at most 48128 bytes print alike exactly when indices, sensors, methods, technicians, times and figures agree"
 abbrev pub FilesAlike : Type 0
 FilesAlike =
     (a b : List ℕ) → Bytes a → Bytes b → printable a ≡ true → printable b ≡ true
-    → (printoutOf a ≡ printoutOf b) ↔ AgreeOnPaper (journalOf (words_of a)) (journalOf (words_of b))
+    → (printout_of a ≡ printout_of b) ↔ AgreeOnPaper (journal_of (words_of a)) (journal_of (words_of b))

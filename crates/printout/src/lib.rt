@@ -3,7 +3,7 @@ ghost use Rattle.std.specs.Prelude.{◌≡◌, ◌*◌, ◌≤◌, length};
 ghost use Rattle.std.proofs.lemmas.List.Edits.{sets};
 ghost use Rattle.words.specs.Bytes.{words_of};
 ghost use Rattle.words.specs.Overlay.{overlay};
-ghost use Rattle.printout.specs.Printout.{unsound, printoutOf};
+ghost use Rattle.printout.specs.Printout.{unsound, printout_of};
 
 use refusals::numbers;
 use words::word;
@@ -47,8 +47,8 @@ fn put_unsound(out: &mut [u8]) -> usize
 // What is written for a file, by words of the caller's.
 fn print_file(bytes: &[u8], words: &mut [u16], out: &mut [u8]) -> usize
     requires { (24064 ≤ length words.old) × (53212 ≤ length out.old) }
-    ensures out_after { out.new ≡ overlay (printoutOf bytes.now) out.old }
-    ensures value { (result ≡ length (printoutOf bytes.now)) × (result ≤ 53212) }
+    ensures out_after { out.new ≡ overlay (printout_of bytes.now) out.old }
+    ensures value { (result ≡ length (printout_of bytes.now)) × (result ≤ 53212) }
 {
     let size = bytes.len();
     if size % 2 != 0 {
@@ -68,8 +68,8 @@ fn print_file(bytes: &[u8], words: &mut [u16], out: &mut [u8]) -> usize
 // What is written for a file of these bytes: the page, or UNSOUND. It stands at the start of the lent buffer, and its length comes back.
 pub fn printout(bytes: &[u8], out: &mut [u8]) -> usize
     requires { 53212 ≤ length out.old }
-    ensures out_after { out.new ≡ overlay (printoutOf bytes.now) out.old }
-    ensures value { (result ≡ length (printoutOf bytes.now)) × (result ≤ 53212) }
+    ensures out_after { out.new ≡ overlay (printout_of bytes.now) out.old }
+    ensures value { (result ≡ length (printout_of bytes.now)) × (result ≤ 53212) }
 {
     let mut words = [0u16; MOST_WORDS];
     print_file(bytes, &mut words, out)

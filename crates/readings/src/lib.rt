@@ -1,6 +1,6 @@
 // The readings of the parameters: value and quality, with the conversion to the units that are set.
 ghost use Rattle.std.specs.Prelude.{◌≡◌};
-ghost use Rattle.readings.specs.Readings.{heightOf, resistivityOf, levelOfId, calibratedOf, pressureOf, levelOf, conductivityValue, levelValue, value_of, workedFrom, gradedReading, reading_of};
+ghost use Rattle.readings.specs.Readings.{height_of, resistivity_of, level_of_id, calibrated_of, pressure_of, level_of, conductivity_value, level_value, value_of, worked_from, graded_reading, reading_of};
 
 use coefficients::Calibration;
 use sensors::{Sample, Sensor, Setup};
@@ -14,7 +14,7 @@ pub struct Reading {
 
 // Sensors 1, 2 and 4: the first raw, calibrated; in mode the raw itself.
 pub fn calibrated(setup: Setup, raw: f32) -> f32
-    ensures { result ≡ calibratedOf setup raw }
+    ensures { result ≡ calibrated_of setup raw }
 {
     let calibrating = setup.procedure.calibrating;
     if calibrating {
@@ -25,7 +25,7 @@ pub fn calibrated(setup: Setup, raw: f32) -> f32
 }
 
 pub fn resistivity(conductivity: f32) -> f32
-    ensures { result ≡ resistivityOf conductivity }
+    ensures { result ≡ resistivity_of conductivity }
 {
     if conductivity == 0.0 {
         return 10000000.0;
@@ -35,14 +35,14 @@ pub fn resistivity(conductivity: f32) -> f32
 
 // Document 01: L(p), a pressure as a height of water.
 fn height(p: f32) -> f32
-    ensures { result ≡ heightOf p }
+    ensures { result ≡ height_of p }
 {
     p * 0.70307 / 1.0
 }
 
 // The level by its id, out of mode: 3 depth, 4 drawdown, 5 elevation.
 fn level_of_id(id: u16, pressure: f32, c: Calibration) -> f32
-    ensures { result ≡ levelOfId id pressure c }
+    ensures { result ≡ level_of_id id pressure c }
 {
     match id {
         4 => c.coefficient2 - height(pressure - c.coefficient3),
@@ -53,7 +53,7 @@ fn level_of_id(id: u16, pressure: f32, c: Calibration) -> f32
 
 // The pressure with the offset taken off; in mode the raw itself.
 pub fn pressure(setup: Setup, raw: f32) -> f32
-    ensures { result ≡ pressureOf setup raw }
+    ensures { result ≡ pressure_of setup raw }
 {
     let calibrating = setup.procedure.calibrating;
     if calibrating {
@@ -65,7 +65,7 @@ pub fn pressure(setup: Setup, raw: f32) -> f32
 
 // The level; in mode the height of the pressure with the offset taken off.
 pub fn level(setup: Setup, raw: f32) -> f32
-    ensures { result ≡ levelOf setup raw }
+    ensures { result ≡ level_of setup raw }
 {
     let calibrating = setup.procedure.calibrating;
     let c = setup.active.calibration;
@@ -78,7 +78,7 @@ pub fn level(setup: Setup, raw: f32) -> f32
 
 // Sensor 1: temperature, conductivity, resistivity.
 fn conductivity_value(setup: Setup, sample: Sample, k: u16) -> f32
-    ensures { result ≡ conductivityValue setup sample k }
+    ensures { result ≡ conductivity_value setup sample k }
 {
     match k {
         1 => sample.raw2,
@@ -89,7 +89,7 @@ fn conductivity_value(setup: Setup, sample: Sample, k: u16) -> f32
 
 // Sensor 3: pressure, level.
 fn level_value(setup: Setup, sample: Sample, k: u16) -> f32
-    ensures { result ≡ levelValue setup sample k }
+    ensures { result ≡ level_value setup sample k }
 {
     match k {
         1 => pressure(setup, sample.raw1),
@@ -110,7 +110,7 @@ pub fn value(sensor: u16, setup: Setup, sample: Sample, k: u16) -> f32
 
 // The parameter that parameter k is worked from, itself where there is none.
 fn worked_from(sensor: u16, k: u16) -> u16
-    ensures { result ≡ workedFrom sensor k }
+    ensures { result ≡ worked_from sensor k }
 {
     if (sensor == 1) & (k == 3) {
         return 2;
@@ -123,7 +123,7 @@ fn worked_from(sensor: u16, k: u16) -> u16
 
 // Quality and value: not present before not finite before in mode.
 fn graded(present: bool, good: bool, calibrating: bool, shown: f32, sentinel: f32) -> Reading
-    ensures { result ≡ gradedReading present good calibrating shown sentinel }
+    ensures { result ≡ graded_reading present good calibrating shown sentinel }
 {
     if !present {
         return Reading {

@@ -1,9 +1,9 @@
 // The reply to a read: registers of one owner, the device or a sensor.
 ghost use Rattle.std.specs.Prelude.{◌≡◌, ◌+◌, ◌%◌, ◌≤◌, length};
 ghost use Rattle.words.specs.Overlay.{overlay};
-ghost use Rattle.registers.specs.Registers.{registerOf};
-ghost use Rattle.service.specs.Reads.{deviceOf, shownFrom};
-ghost use Rattle.reads.specs.Steps.{ownedBody};
+ghost use Rattle.registers.specs.Registers.{register_of};
+ghost use Rattle.service.specs.Reads.{device_of, shown_from};
+ghost use Rattle.reads.specs.Steps.{owned_body};
 
 use registers::Device;
 use sensors::Sensor;
@@ -12,7 +12,7 @@ use state::Counters;
 
 // The values that the device's registers show.
 pub fn device(c: Counters, technician: u16, volume: &[u16], arrival: Arrival) -> Device
-    ensures { result ≡ deviceOf c technician volume.now arrival }
+    ensures { result ≡ device_of c technician volume.now arrival }
 {
     Device {
         clock: arrival.clock,
@@ -27,7 +27,7 @@ pub fn device(c: Counters, technician: u16, volume: &[u16], arrival: Arrival) ->
 
 // A register by its owner, 0 for the device or a sensor's number, and its offset.
 fn register_of(owner: u16, device: Device, sensor: Sensor, offset: u16) -> u16
-    ensures { result ≡ registerOf owner device sensor offset }
+    ensures { result ≡ register_of owner device sensor offset }
 {
     if owner == 0 {
         return registers::device_register(device, offset);
@@ -38,7 +38,7 @@ fn register_of(owner: u16, device: Device, sensor: Sensor, offset: u16) -> u16
 // An owner's registers from an offset on, as many as there are words.
 fn fill(words: &mut [u16], owner: u16, device: Device, sensor: Sensor, offset: u16)
     requires { offset + length words.old ≤ 65536 }
-    ensures { words.new ≡ shownFrom (registerOf owner device sensor) offset (length words.old) }
+    ensures { words.new ≡ shown_from (register_of owner device sensor) offset (length words.old) }
 {
     for i in 0..words.len() {
         words[i] = register_of(owner, device, sensor, offset + (i as u16));
@@ -55,8 +55,8 @@ pub fn read(
     count: u16,
 ) -> usize
     requires { (256 ≤ length reply.old) × (count ≤ 125) × (start % 100 + count ≤ 100) }
-    ensures value { result ≡ length (ownedBody address device sensor start count) }
-    ensures reply_after { reply.new ≡ overlay (ownedBody address device sensor start count) reply.old }
+    ensures value { result ≡ length (owned_body address device sensor start count) }
+    ensures reply_after { reply.new ≡ overlay (owned_body address device sensor start count) reply.old }
 {
     let mut words: [u16; 125] = [0; 125];
     let n = count as usize;

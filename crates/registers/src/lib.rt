@@ -1,6 +1,6 @@
 // What each register shows: the device's and the sensors'.
 ghost use Rattle.std.specs.Prelude.{◌≡◌, ◌/◌, ◌%◌};
-ghost use Rattle.registers.specs.Registers.{mode_of, shownCoefficients, coefficientRegister, pointRegister, shownId, readingRegister, parameterRegister, headRegister, sensorRegister, deviceRegister};
+ghost use Rattle.registers.specs.Registers.{mode_of, shown_coefficients, coefficient_register, point_register, shown_id, reading_register, parameter_register, head_register, sensor_register, device_register};
 
 use coefficients::Coefficients;
 use methods::Points;
@@ -46,7 +46,7 @@ fn mode(setup: Setup) -> u16
 
 // The coefficients that are shown: the trial ones in mode, else the active ones.
 fn shown_coefficients(setup: Setup) -> Coefficients
-    ensures { result ≡ shownCoefficients setup }
+    ensures { result ≡ shown_coefficients setup }
 {
     let c = setup.active.calibration;
     let settled = c.coefficients();
@@ -60,7 +60,7 @@ fn shown_coefficients(setup: Setup) -> Coefficients
 
 // Offsets 10 to 15.
 fn coefficient_register(c: Coefficients, offset: u16) -> u16
-    ensures { result ≡ coefficientRegister c offset }
+    ensures { result ≡ coefficient_register c offset }
 {
     match offset {
         10 => floats::high_word(c.coefficient1),
@@ -75,7 +75,7 @@ fn coefficient_register(c: Coefficients, offset: u16) -> u16
 
 // Offsets 16 to 23.
 fn point_register(p: Points, offset: u16) -> u16
-    ensures { result ≡ pointRegister p offset }
+    ensures { result ≡ point_register p offset }
 {
     match offset {
         16 => floats::high_word(p.x1),
@@ -92,7 +92,7 @@ fn point_register(p: Points, offset: u16) -> u16
 
 // The id of parameter k; the level's is the one that is set.
 fn shown_id(sensor: u16, setup: Setup, k: u16) -> u16
-    ensures { result ≡ shownId sensor setup k }
+    ensures { result ≡ shown_id sensor setup k }
 {
     if (sensor == 3) & (k == 2) {
         return setup.parameters.level;
@@ -102,7 +102,7 @@ fn shown_id(sensor: u16, setup: Setup, k: u16) -> u16
 
 // The registers of a reading: 0 and 1 the value, 4 the quality.
 fn reading_register(r: Reading, part: u16) -> u16
-    ensures { result ≡ readingRegister r part }
+    ensures { result ≡ reading_register r part }
 {
     match part {
         0 => floats::high_word(r.value),
@@ -113,7 +113,7 @@ fn reading_register(r: Reading, part: u16) -> u16
 
 // One of the eight registers of parameter k. The reading is worked out for its own registers alone.
 fn parameter_register(sensor: u16, s: Sensor, k: u16, part: u16) -> u16
-    ensures { result ≡ parameterRegister sensor s k part }
+    ensures { result ≡ parameter_register sensor s k part }
 {
     let setup = s.setup;
     let q = setup.parameters;
@@ -130,7 +130,7 @@ fn parameter_register(sensor: u16, s: Sensor, k: u16, part: u16) -> u16
 
 // Offsets 0 to 9.
 fn head_register(sensor: u16, setup: Setup, offset: u16) -> u16
-    ensures { result ≡ headRegister sensor setup offset }
+    ensures { result ≡ head_register sensor setup offset }
 {
     let active = setup.active;
     let c = active.calibration;
@@ -149,7 +149,7 @@ fn head_register(sensor: u16, setup: Setup, offset: u16) -> u16
 
 // A register of a sensor, by its offset; 0 where the map has none.
 pub fn sensor_register(sensor: u16, s: Sensor, offset: u16) -> u16
-    ensures { result ≡ sensorRegister sensor s offset }
+    ensures { result ≡ sensor_register sensor s offset }
 {
     let setup = s.setup;
     match offset {
@@ -163,7 +163,7 @@ pub fn sensor_register(sensor: u16, s: Sensor, offset: u16) -> u16
 
 // A register of the device; 0 where the map has none.
 pub fn device_register(d: Device, offset: u16) -> u16
-    ensures { result ≡ deviceRegister d offset }
+    ensures { result ≡ device_register d offset }
 {
     match offset {
         0 => 3,

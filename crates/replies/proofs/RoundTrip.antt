@@ -7,10 +7,10 @@ use native.Mathlib.Omega.{arith}
 use borrow.Author.Tests.{ne_eqb}
 use lib.ListN.{length, get_or}
 use Rattle.words.specs.Bytes.{bytes_of, word_at, Bytes}
-use Rattle.framing.specs.Framing.{carriedIn}
+use Rattle.framing.specs.Framing.{carried_in}
 use Rattle.framing.specs.Framing.Carried.{Body}
-use Rattle.framing.proofs.RoundTrip.{frame-carries}
-use Rattle.replies.specs.Reply.{writtenBody, replyOf}
+use Rattle.framing.proofs.RoundTrip.{frame_carries}
+use Rattle.replies.specs.Reply.{written_body, reply_of}
 
 -- no bytes, or as many as a frame carries
 pub record Sized (b : List ℕ) : Type 0 where
@@ -18,26 +18,26 @@ pub record Sized (b : List ℕ) : Type 0 where
   pub most : length b ≤ 254
 
 -- a reply carries its body
-pub reply-carries : (ascii : Bool) (b : List ℕ) → Bytes b → Sized b → (length b ≡ 0 → ⊥) → carriedIn ascii (replyOf ascii b) ≡ Body b
-unfolding replyOf
-reply-carries ascii b h s n = rw (ne_eqb (length b) 0 n) (frame-carries ascii b h (s.least n) s.most)
+pub reply_carries : (ascii : Bool) (b : List ℕ) → Bytes b → Sized b → (length b ≡ 0 → ⊥) → carried_in ascii (reply_of ascii b) ≡ Body b
+unfolding reply_of
+reply_carries ascii b h s n = rw (ne_eqb (length b) 0 n) (frame_carries ascii b h (s.least n) s.most)
 
 -- the reply to function 16: address, function, start and count, high bytes first
-pub start-and-count : (body : List ℕ) → Bytes body → 6 ≤ length body
-    → writtenBody 16 body ≡ get_or body 0 0 ∷ get_or body 1 0 ∷ bytes_of (word_at body 2 ∷ word_at body 4 ∷ [])
-unfolding writtenBody bytes_of
-start-and-count (a ∷ b ∷ c ∷ d ∷ e ∷ f ∷ rest) h l =
+pub start_and_count : (body : List ℕ) → Bytes body → 6 ≤ length body
+    → written_body 16 body ≡ get_or body 0 0 ∷ get_or body 1 0 ∷ bytes_of (word_at body 2 ∷ word_at body 4 ∷ [])
+unfolding written_body bytes_of
+start_and_count (a ∷ b ∷ c ∷ d ∷ e ∷ f ∷ rest) h l =
     let high : (x y : ℕ) → y < 256 → (x * 256 + y) / 256 ≡ x = λ x y k. omega arith in
     let low : (x y : ℕ) → y < 256 → (x * 256 + y) % 256 ≡ y = λ x y k. omega arith in
     rw (high c d (h.below 3), low c d (h.below 3), high e f (h.below 5), low e f (h.below 5))
-start-and-count [] h l = absurd (omega arith)
-start-and-count (a ∷ []) h l = absurd (omega arith)
-start-and-count (a ∷ b ∷ []) h l = absurd (omega arith)
-start-and-count (a ∷ b ∷ c ∷ []) h l = absurd (omega arith)
-start-and-count (a ∷ b ∷ c ∷ d ∷ []) h l = absurd (omega arith)
-start-and-count (a ∷ b ∷ c ∷ d ∷ e ∷ []) h l = absurd (omega arith)
+start_and_count [] h l = absurd (omega arith)
+start_and_count (a ∷ []) h l = absurd (omega arith)
+start_and_count (a ∷ b ∷ []) h l = absurd (omega arith)
+start_and_count (a ∷ b ∷ c ∷ []) h l = absurd (omega arith)
+start_and_count (a ∷ b ∷ c ∷ d ∷ []) h l = absurd (omega arith)
+start_and_count (a ∷ b ∷ c ∷ d ∷ e ∷ []) h l = absurd (omega arith)
 
 -- the reply to functions 6 and 22 is the request
-pub echoed : (body : List ℕ) → (writtenBody 6 body ≡ body) × (writtenBody 22 body ≡ body)
-unfolding writtenBody
+pub echoed : (body : List ℕ) → (written_body 6 body ≡ body) × (written_body 22 body ≡ body)
+unfolding written_body
 echoed body = (refl, refl)

@@ -8,7 +8,7 @@ use native.Mathlib.Omega.{arith}
 use lib.ListN.{length, get_or, take, set}
 use lib.Seq.{sets, take-suc, length-take-le}
 use Rattle.words.specs.Bytes.{bytes_of}
-use Rattle.words.proofs.Bytes.{bytes-append, bytes-length}
+use Rattle.words.proofs.Bytes.{bytes_append, bytes_length}
 use Rattle.words.proofs.Stores.{sets-append}
 
 -- one word more of a list, from byte 3 on
@@ -18,10 +18,10 @@ unfolding bytes_of
 word_more v ws i h =
     let w : ℕ = get_or ws i 0 in
     let done : List ℕ = bytes_of (take i ws) in
-    let n : 3 + length done ≡ 3 + 2 * i = omega (arith, bytes-length (take i ws), length-take-le i ws (le_of_lt h)) in
+    let n : 3 + length done ≡ 3 + 2 * i = omega (arith, bytes_length (take i ws), length-take-le i ws (le_of_lt h)) in
     let m : suc (3 + 2 * i) ≡ 4 + 2 * i = omega arith in
     sym (ap (λ (l : List ℕ). sets v 3 (bytes_of l)) (ap (λ (k : ℕ). take k ws) (add-one i) ∙ take-suc ws i 0 h)
-    ∙ ap (sets v 3) (bytes-append (take i ws) (w ∷ []))
+    ∙ ap (sets v 3) (bytes_append (take i ws) (w ∷ []))
     ∙ sets-append v 3 done (w / 256 ∷ w % 256 ∷ [])
     ∙ ap (λ (k : ℕ). set (set (sets v 3 done) k (w / 256)) (suc k) (w % 256)) n
     ∙ ap (λ (k : ℕ). set (set (sets v 3 done) (3 + 2 * i) (w / 256)) k (w % 256)) m)

@@ -3,8 +3,8 @@ ghost use Rattle.std.specs.Prelude.{◌≡◌, ◌+◌, ◌*◌, ◌≤◌, leng
 ghost use Rattle.std.proofs.lemmas.List.Edits.{sets};
 ghost use Rattle.words.specs.Bytes.{bytes_of};
 ghost use Rattle.words.specs.Overlay.{overlay};
-ghost use Rattle.framing.specs.Framing.{roomIn};
-ghost use Rattle.replies.specs.Reply.{markedOf, read_body, writtenBody, exceptionBody, replyOf};
+ghost use Rattle.framing.specs.Framing.{room_in};
+ghost use Rattle.replies.specs.Reply.{marked_of, read_body, written_body, exception_body, reply_of};
 
 // Words from byte 3 on.
 fn put_words(reply: &mut [u8], words: &[u16])
@@ -44,8 +44,8 @@ fn put_bytes(reply: &mut [u8], bytes: &[u8])
 // To a write: the request, of function 16 its first six bytes (address, function, start, count).
 pub fn put_written(reply: &mut [u8], function: u8, body: &[u8]) -> usize
     requires { (256 ≤ length reply.old) × (6 ≤ length body.now) × (length body.now ≤ 254) }
-    ensures value { result ≡ length (writtenBody function body.now) }
-    ensures reply_after { reply.new ≡ overlay (writtenBody function body.now) reply.old }
+    ensures value { result ≡ length (written_body function body.now) }
+    ensures reply_after { reply.new ≡ overlay (written_body function body.now) reply.old }
 {
     if function == 16 {
         put_bytes(reply, &body[..6]);
@@ -57,7 +57,7 @@ pub fn put_written(reply: &mut [u8], function: u8, body: &[u8]) -> usize
 
 // A function's number in an exception reply.
 fn marked(function: u8) -> u8
-    ensures { result ≡ markedOf function }
+    ensures { result ≡ marked_of function }
 {
     function | 0x80
 }
@@ -65,8 +65,8 @@ fn marked(function: u8) -> u8
 // To a request that is refused by a code.
 pub fn put_exception(reply: &mut [u8], address: u8, function: u8, code: u8) -> usize
     requires { 256 ≤ length reply.old }
-    ensures value { result ≡ length (exceptionBody address function code) }
-    ensures reply_after { reply.new ≡ overlay (exceptionBody address function code) reply.old }
+    ensures value { result ≡ length (exception_body address function code) }
+    ensures reply_after { reply.new ≡ overlay (exception_body address function code) reply.old }
 {
     reply[0] = address;
     reply[1] = marked(function);
@@ -76,9 +76,9 @@ pub fn put_exception(reply: &mut [u8], address: u8, function: u8, code: u8) -> u
 
 // The reply's body in the first n bytes gets its framing; no body is no reply.
 pub fn seal(ascii: bool, reply: &mut [u8], n: usize) -> u16
-    requires { (n ≤ 254) × (roomIn ascii ≤ length reply.old) }
-    ensures value { result ≡ length (replyOf ascii (take n reply.old)) }
-    ensures reply_after { reply.new ≡ overlay (replyOf ascii (take n reply.old)) reply.old }
+    requires { (n ≤ 254) × (room_in ascii ≤ length reply.old) }
+    ensures value { result ≡ length (reply_of ascii (take n reply.old)) }
+    ensures reply_after { reply.new ≡ overlay (reply_of ascii (take n reply.old)) reply.old }
 {
     if n == 0 {
         return 0;

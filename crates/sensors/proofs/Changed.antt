@@ -8,138 +8,138 @@ use lib.Ieee.{Float, binary32, fits}
 use borrow.Author.Tests.{eqb-true}
 use Rattle.floats.specs.Floats.{finite}
 use Rattle.floats.proofs.Bools.{choose}
-use Rattle.coefficients.specs.Coefficients.{allFinite, calibrationOf, inLimits}
+use Rattle.coefficients.specs.Coefficients.{all_finite, calibration_of, in_limits}
 use Rattle.coefficients.specs.declared.Coefficients.{Coefficients}
 use Rattle.coefficients.proofs.Bits.{CoefficientsFit}
-use Rattle.parameters.specs.Parameters.{id_of, unitsAllowed, levelAllowed}
-use Rattle.sensors.specs.Sensors.{unitsValid, levelValid, validParameter, validParameters, validProcedure, validSetup, validSensor}
-use Rattle.sensors.specs.Changes.{active, withProcedure, withActive, withParameters, withTrial, withLevel, restarted, calibratedAt, withParameter, sample, measuredOf, measuredSensor}
+use Rattle.parameters.specs.Parameters.{id_of, units_allowed, level_allowed}
+use Rattle.sensors.specs.Sensors.{units_valid, level_valid, valid_parameter, valid_parameters, valid_procedure, valid_setup, valid_sensor}
+use Rattle.sensors.specs.Changes.{active, with_procedure, with_active, with_parameters, with_trial, with_level, restarted, calibrated_at, with_parameter, sample, measured_of, measured_sensor}
 use Rattle.sensors.specs.declared.Parameter.{Parameter}
 use Rattle.sensors.specs.declared.Parameters.{Parameters}
 use Rattle.sensors.specs.declared.Procedure.{Procedure}
 use Rattle.sensors.specs.declared.Setup.{Setup}
 use Rattle.sensors.specs.declared.Sensor.{Sensor}
-use Rattle.sensors.proofs.Setups.{ValidParameters, ProcedureFits, ParametersFit, SetupFits, valid-calibration, valid-procedure-parts, valid-procedure, valid-parameters-parts, valid-parameters, valid-setup-parts, valid-setup, active-parts, valid-sensor-parts, new-procedure-valid, new-procedure-fits}
+use Rattle.sensors.proofs.Setups.{ValidParameters, ProcedureFits, ParametersFit, SetupFits, valid_calibration_lem, valid_procedure_parts, valid-procedure, valid_parameters_parts, valid-parameters, valid_setup_parts, valid-setup, active_parts, valid_sensor_parts, new_procedure-valid, new_procedure_fits}
 
 -- ---- valid
 
-module _ (s : ℕ) (x : Setup) (h : validSetup s x ≡ true) where
+module _ (s : ℕ) (x : Setup) (h : valid_setup s x ≡ true) where
   -- another procedure
-  pub with-procedure-valid : (p : Procedure) → validProcedure s p ≡ true → validSetup s (withProcedure x p) ≡ true
-  with-procedure-valid p v =
-      let w = valid-setup-parts s x h in
-      valid-setup s (withProcedure x p) (record { calibration-valid = w.calibration-valid; procedure-valid = v; parameters-valid = w.parameters-valid })
+  pub with_procedure_valid : (p : Procedure) → valid_procedure s p ≡ true → valid_setup s (with_procedure x p) ≡ true
+  with_procedure_valid p v =
+      let w = valid_setup_parts s x h in
+      valid-setup s (with_procedure x p) (record { calibration_valid = w.calibration_valid; procedure_valid = v; parameters_valid = w.parameters_valid })
 
   -- other parameters
-  pub with-parameters-valid : (q : Parameters) → validParameters s q ≡ true → validSetup s (withParameters x q) ≡ true
-  with-parameters-valid q v =
-      let w = valid-setup-parts s x h in
-      valid-setup s (withParameters x q) (record { calibration-valid = w.calibration-valid; procedure-valid = w.procedure-valid; parameters-valid = v })
+  pub with_parameters_valid : (q : Parameters) → valid_parameters s q ≡ true → valid_setup s (with_parameters x q) ≡ true
+  with_parameters_valid q v =
+      let w = valid_setup_parts s x h in
+      valid-setup s (with_parameters x q) (record { calibration_valid = w.calibration_valid; procedure_valid = w.procedure_valid; parameters_valid = v })
 
   -- a time of the next calibration
-  pub with-next-valid : (next : ℕ) → validSetup s (withActive x (active x.active.calibration next)) ≡ true
-  unfolding validSetup
-  with-next-valid next = h
+  pub with_next_valid : (next : ℕ) → valid_setup s (with_active x (active x.active.calibration next)) ≡ true
+  unfolding valid_setup
+  with_next_valid next = h
 
   -- trial coefficients, method and points begin anew
-  pub restarted-valid : (mode : Bool) → validSetup s (restarted x mode) ≡ true
+  pub restarted_valid : (mode : Bool) → valid_setup s (restarted x mode) ≡ true
   unfolding restarted
-  restarted-valid mode = with-procedure-valid _ (new-procedure-valid s mode _ (active-parts s x h).0)
+  restarted_valid mode = with_procedure_valid _ (new_procedure-valid s mode _ (active_parts s x h).0)
 
   -- other trial coefficients that are finite
-  pub with-trial-valid : (c : Coefficients) → allFinite c ≡ true → validSetup s (withTrial x c) ≡ true
-  with-trial-valid c f =
-      let p = valid-procedure-parts s x.procedure (valid-setup-parts s x h).procedure-valid in
-      with-procedure-valid _ (valid-procedure s _ (record { trial-finite = f; points-finite = p.points-finite; method-allowed = p.method-allowed }))
+  pub with_trial_valid : (c : Coefficients) → all_finite c ≡ true → valid_setup s (with_trial x c) ≡ true
+  with_trial_valid c f =
+      let p = valid_procedure_parts s x.procedure (valid_setup_parts s x h).procedure_valid in
+      with_procedure_valid _ (valid-procedure s _ (record { trial_finite = f; points_finite_holds = p.points_finite_holds; method_allowed_holds = p.method_allowed_holds }))
 
   -- coefficients in limits come into force
-  pub calibrated-valid : (c : Coefficients) (clock : ℕ) → allFinite c ≡ true → inLimits s c ≡ true → validSetup s (calibratedAt x c clock) ≡ true
-  unfolding calibratedAt
-  calibrated-valid c clock f l =
-      let w = valid-setup-parts s (withTrial x c) (with-trial-valid c f) in
-      valid-setup s (calibratedAt x c clock)
-      (record { calibration-valid = valid-calibration s (calibrationOf c clock) l; procedure-valid = w.procedure-valid; parameters-valid = w.parameters-valid })
+  pub calibrated_valid : (c : Coefficients) (clock : ℕ) → all_finite c ≡ true → in_limits s c ≡ true → valid_setup s (calibrated_at x c clock) ≡ true
+  unfolding calibrated_at
+  calibrated_valid c clock f l =
+      let w = valid_setup_parts s (with_trial x c) (with_trial_valid c f) in
+      valid-setup s (calibrated_at x c clock)
+      (record { calibration_valid = valid_calibration_lem s (calibration_of c clock) l; procedure_valid = w.procedure_valid; parameters_valid = w.parameters_valid })
 
-module _ (s : ℕ) (q : Parameters) (h : validParameters s q ≡ true) where
+module _ (s : ℕ) (q : Parameters) (h : valid_parameters s q ≡ true) where
   v : ValidParameters s q
-  v = valid-parameters-parts s q h
+  v = valid_parameters_parts s q h
 
   -- a listed level
-  pub with-level-valid : (level : ℕ) → levelAllowed level ≡ true → validParameters s (withLevel q level) ≡ true
-  unfolding levelValid
-  with-level-valid level l =
+  pub with_level_valid : (level : ℕ) → level_allowed level ≡ true → valid_parameters s (with_level q level) ≡ true
+  unfolding level_valid
+  with_level_valid level l =
       valid-parameters s _
-      (record { level-valid = choose (λ t. t ≡ true) (eqb s 3) _ _ (λ e. l) (λ e. refl); valid1 = v.valid1; valid2 = v.valid2; valid3 = v.valid3 })
+      (record { level_valid_holds = choose (λ t. t ≡ true) (eqb s 3) _ _ (λ e. l) (λ e. refl); valid1 = v.valid1; valid2 = v.valid2; valid3 = v.valid3 })
 
   -- a valid parameter replaces another
-  pub with-parameter-valid : (k : ℕ) (p : Parameter) → 1 ≤ k → k ≤ 3 → validParameter s k p ≡ true → validParameters s (withParameter q k p) ≡ true
-  unfolding withParameter
-  with-parameter-valid (suc zero) p l m u = valid-parameters s _ (record { level-valid = v.level-valid; valid1 = u; valid2 = v.valid2; valid3 = v.valid3 })
-  with-parameter-valid (suc (suc zero)) p l m u = valid-parameters s _ (record { level-valid = v.level-valid; valid1 = v.valid1; valid2 = u; valid3 = v.valid3 })
-  with-parameter-valid (suc (suc (suc zero))) p l m u =
-      valid-parameters s _ (record { level-valid = v.level-valid; valid1 = v.valid1; valid2 = v.valid2; valid3 = u })
-  with-parameter-valid zero p l m u = absurd (omega arith)
-  with-parameter-valid (suc (suc (suc (suc k)))) p l m u = absurd (omega arith)
+  pub with_parameter_valid : (k : ℕ) (p : Parameter) → 1 ≤ k → k ≤ 3 → valid_parameter s k p ≡ true → valid_parameters s (with_parameter q k p) ≡ true
+  unfolding with_parameter
+  with_parameter_valid (suc zero) p l m u = valid-parameters s _ (record { level_valid_holds = v.level_valid_holds; valid1 = u; valid2 = v.valid2; valid3 = v.valid3 })
+  with_parameter_valid (suc (suc zero)) p l m u = valid-parameters s _ (record { level_valid_holds = v.level_valid_holds; valid1 = v.valid1; valid2 = u; valid3 = v.valid3 })
+  with_parameter_valid (suc (suc (suc zero))) p l m u =
+      valid-parameters s _ (record { level_valid_holds = v.level_valid_holds; valid1 = v.valid1; valid2 = v.valid2; valid3 = u })
+  with_parameter_valid zero p l m u = absurd (omega arith)
+  with_parameter_valid (suc (suc (suc (suc k)))) p l m u = absurd (omega arith)
 
 -- listed units of a parameter are valid
-pub units-listed : (s k units : ℕ) → unitsAllowed (id_of s k) units ≡ true → unitsValid s k units ≡ true
-unfolding unitsValid
-units-listed s k units u = choose (λ t. t ≡ true) (eqb (id_of s k) 0) _ _ (λ e. refl) (λ e. u)
+pub units_listed : (s k units : ℕ) → units_allowed (id_of s k) units ≡ true → units_valid s k units ≡ true
+unfolding units_valid
+units_listed s k units u = choose (λ t. t ≡ true) (eqb (id_of s k) 0) _ _ (λ e. refl) (λ e. u)
 
 -- a measurement of finite raws, of those that it reads, keeps a sensor valid
-pub measured-valid : (s : ℕ) (x : Sensor) (present : Bool) (raw1 raw2 : Float) → validSensor s x ≡ true
+pub measured_valid : (s : ℕ) (x : Sensor) (present : Bool) (raw1 raw2 : Float) → valid_sensor s x ≡ true
     → (present ≡ true → finite raw1 ≡ true) → (present ≡ true → s ≡ 1 → finite raw2 ≡ true)
-    → validSensor s (measuredSensor x s present raw1 raw2) ≡ true
-unfolding validSensor measuredSensor measuredOf
-measured-valid s x present raw1 raw2 h a b = go present a b (eqb s 1) refl
+    → valid_sensor s (measured_sensor x s present raw1 raw2) ≡ true
+unfolding valid_sensor measured_sensor measured_of
+measured_valid s x present raw1 raw2 h a b = go present a b (eqb s 1) refl
   where
     go : (p : Bool) → (p ≡ true → finite raw1 ≡ true) → (p ≡ true → s ≡ 1 → finite raw2 ≡ true) → (q : Bool) → eqb s 1 ≡ q
-        → (validSetup s x.setup
+        → (valid_setup s x.setup
         && finite (cond p (cond q (sample p raw1 raw2) (sample p raw1 x.sample.raw2)) (sample p x.sample.raw1 x.sample.raw2)).raw1
         && finite (cond p (cond q (sample p raw1 raw2) (sample p raw1 x.sample.raw2)) (sample p x.sample.raw1 x.sample.raw2)).raw2)
         ≡ true
     go false a b q e = h
-    go true a b true e = rw ((valid-sensor-parts s x h).0, a refl, b refl (eqb-true s 1 e))
-    go true a b false e = rw ((valid-sensor-parts s x h).0, a refl, (valid-sensor-parts s x h).2)
+    go true a b true e = rw ((valid_sensor_parts s x h).0, a refl, b refl (eqb-true s 1 e))
+    go true a b false e = rw ((valid_sensor_parts s x h).0, a refl, (valid_sensor_parts s x h).2)
 
 -- ---- floats of the format
 
 module _ (x : Setup) (v : SetupFits x) where
   -- another procedure
-  pub with-procedure-fits : (p : Procedure) → ProcedureFits p → SetupFits (withProcedure x p)
-  with-procedure-fits p f = record { fits-calibration = v.fits-calibration; fits-procedure = f; fits-parameters = v.fits-parameters }
+  pub with_procedure_fits : (p : Procedure) → ProcedureFits p → SetupFits (with_procedure x p)
+  with_procedure_fits p f = record { fits_calibration = v.fits_calibration; fits_procedure = f; fits_parameters = v.fits_parameters }
 
   -- other parameters
-  pub with-parameters-fits : (q : Parameters) → ParametersFit q → SetupFits (withParameters x q)
-  with-parameters-fits q f = record { fits-calibration = v.fits-calibration; fits-procedure = v.fits-procedure; fits-parameters = f }
+  pub with_parameters_fits : (q : Parameters) → ParametersFit q → SetupFits (with_parameters x q)
+  with_parameters_fits q f = record { fits_calibration = v.fits_calibration; fits_procedure = v.fits_procedure; fits_parameters = f }
 
   -- a time of the next calibration
-  pub with-next-fits : (next : ℕ) → SetupFits (withActive x (active x.active.calibration next))
-  with-next-fits next = record { fits-calibration = v.fits-calibration; fits-procedure = v.fits-procedure; fits-parameters = v.fits-parameters }
+  pub with_next_fits : (next : ℕ) → SetupFits (with_active x (active x.active.calibration next))
+  with_next_fits next = record { fits_calibration = v.fits_calibration; fits_procedure = v.fits_procedure; fits_parameters = v.fits_parameters }
 
   -- trial coefficients, method and points begin anew
-  pub restarted-fits : (mode : Bool) → SetupFits (restarted x mode)
+  pub restarted_fits : (mode : Bool) → SetupFits (restarted x mode)
   unfolding restarted
-  restarted-fits mode = with-procedure-fits _ (new-procedure-fits mode _ v.fits-calibration)
+  restarted_fits mode = with_procedure_fits _ (new_procedure_fits mode _ v.fits_calibration)
 
   -- other trial coefficients
-  pub with-trial-fits : (c : Coefficients) → CoefficientsFit c → SetupFits (withTrial x c)
-  with-trial-fits c f = with-procedure-fits _ (record { fits-trial = f; fits-points = v.fits-procedure.fits-points })
+  pub with_trial_fits : (c : Coefficients) → CoefficientsFit c → SetupFits (with_trial x c)
+  with_trial_fits c f = with_procedure_fits _ (record { fits_trial = f; fits_points = v.fits_procedure.fits_points })
 
   -- coefficients of the format come into force
-  pub calibrated-fits : (c : Coefficients) (clock : ℕ) → CoefficientsFit c → SetupFits (calibratedAt x c clock)
-  unfolding calibratedAt
-  calibrated-fits c clock f =
+  pub calibrated_fits : (c : Coefficients) (clock : ℕ) → CoefficientsFit c → SetupFits (calibrated_at x c clock)
+  unfolding calibrated_at
+  calibrated_fits c clock f =
       record {
-        fits-calibration = record { fits-coefficient1 = f.fits-coefficient1; fits-coefficient2 = f.fits-coefficient2; fits-coefficient3 = f.fits-coefficient3 };
-        fits-procedure = (with-trial-fits c f).fits-procedure;
-        fits-parameters = v.fits-parameters;
+        fits_calibration = record { fits_coefficient1 = f.fits_coefficient1; fits_coefficient2 = f.fits_coefficient2; fits_coefficient3 = f.fits_coefficient3 };
+        fits_procedure = (with_trial_fits c f).fits_procedure;
+        fits_parameters = v.fits_parameters;
       }
 
 -- a parameter with a sentinel of the format
-pub with-parameter-fits : (q : Parameters) → ParametersFit q → (k : ℕ) (p : Parameter) → T (fits binary32 p.sentinel) → ParametersFit (withParameter q k p)
-unfolding withParameter
-with-parameter-fits q v k p f =
+pub with_parameter_fits : (q : Parameters) → ParametersFit q → (k : ℕ) (p : Parameter) → T (fits binary32 p.sentinel) → ParametersFit (with_parameter q k p)
+unfolding with_parameter
+with_parameter_fits q v k p f =
     choose ParametersFit (eqb k 1) _ _ (λ e. record { fits1 = f; fits2 = v.fits2; fits3 = v.fits3 })
     (λ e. choose ParametersFit (eqb k 2) _ _ (λ e. record { fits1 = v.fits1; fits2 = f; fits3 = v.fits3 })
     (λ e. record { fits1 = v.fits1; fits2 = v.fits2; fits3 = f }))

@@ -9,18 +9,18 @@ use lib.Ieee.{binary32, fits}
 use lib.Ieee.Bits.{of_bits-fits}
 use Rattle.floats.specs.Floats.{finite}
 use Rattle.floats.proofs.Bools.{both, choose}
-use Rattle.floats.proofs.Words.{plus-zero-finite}
-use Rattle.coefficients.specs.Coefficients.{allFinite, calibrationOf, coefficientsOf, defaultsOf, inLimits}
+use Rattle.floats.proofs.Words.{plus_zero_finite}
+use Rattle.coefficients.specs.Coefficients.{all_finite, calibration_of, coefficients_of, defaults_of, in_limits}
 use Rattle.coefficients.specs.declared.Coefficients.{Coefficients}
 use Rattle.coefficients.specs.declared.Calibration.{Calibration}
 use Rattle.coefficients.proofs.Bits.{CoefficientsFit}
-use Rattle.coefficients.proofs.Limits.{limits-finite, sensor-cases, defaults-in-limits, defaults-fit}
+use Rattle.coefficients.proofs.Limits.{limits_finite, sensor_cases, defaults_in_limits, defaults_fit}
 use Rattle.methods.specs.Methods.{points}
 use Rattle.methods.proofs.Candidates.{PointsFit}
-use Rattle.entries.specs.Entries.{methodAllowed, pointsFinite, validCalibration}
-use Rattle.parameters.specs.Parameters.{id_of, defaultUnits, unitsAllowed, levelAllowed}
-use Rattle.sensors.specs.Changes.{newProcedure}
-use Rattle.sensors.specs.Sensors.{parameterOf, freshParameter, freshParameters, freshSetup, poweredSetup, freshSensor, unitsValid, levelValid, validParameter, validParameters, validProcedure, validSetup, validSensor}
+use Rattle.entries.specs.Entries.{method_allowed, points_finite, valid_calibration}
+use Rattle.parameters.specs.Parameters.{id_of, default_units, units_allowed, level_allowed}
+use Rattle.sensors.specs.Changes.{new_procedure}
+use Rattle.sensors.specs.Sensors.{parameter_of, fresh_parameter, fresh_parameters, fresh_setup, powered_setup, fresh_sensor, units_valid, level_valid, valid_parameter, valid_parameters, valid_procedure, valid_setup, valid_sensor}
 use Rattle.sensors.specs.declared.Parameter.{Parameter}
 use Rattle.sensors.specs.declared.Parameters.{Parameters}
 use Rattle.sensors.specs.declared.Procedure.{Procedure}
@@ -30,109 +30,109 @@ use Rattle.sensors.specs.declared.Sensor.{Sensor}
 -- ---- the parts of what is valid
 
 -- a valid calibration is finite and in limits
-pub valid-calibration-parts : (s : ℕ) (c : Calibration) → validCalibration s c ≡ true
-    → (allFinite (coefficientsOf c) ≡ true) × (inLimits s (coefficientsOf c) ≡ true)
-unfolding validCalibration
-valid-calibration-parts s c h = both (allFinite (coefficientsOf c)) (inLimits s (coefficientsOf c)) h
+pub valid_calibration_parts : (s : ℕ) (c : Calibration) → valid_calibration s c ≡ true
+    → (all_finite (coefficients_of c) ≡ true) × (in_limits s (coefficients_of c) ≡ true)
+unfolding valid_calibration
+valid_calibration_parts s c h = both (all_finite (coefficients_of c)) (in_limits s (coefficients_of c)) h
 
 -- and one in limits is valid
-pub valid-calibration : (s : ℕ) (c : Calibration) → inLimits s (coefficientsOf c) ≡ true → validCalibration s c ≡ true
-unfolding validCalibration
-valid-calibration s c l = rw (limits-finite s (coefficientsOf c) l, l)
+pub valid_calibration_lem : (s : ℕ) (c : Calibration) → in_limits s (coefficients_of c) ≡ true → valid_calibration s c ≡ true
+unfolding valid_calibration
+valid_calibration_lem s c l = rw (limits_finite s (coefficients_of c) l, l)
 
 pub record ValidProcedure (s : ℕ) (p : Procedure) : Type 0 where
-  pub trial-finite : allFinite p.trial ≡ true
-  pub points-finite : pointsFinite p.points ≡ true
-  pub method-allowed : methodAllowed s p.method ≡ true
+  pub trial_finite : all_finite p.trial ≡ true
+  pub points_finite_holds : points_finite p.points ≡ true
+  pub method_allowed_holds : method_allowed s p.method ≡ true
 
-pub valid-procedure-parts : (s : ℕ) (p : Procedure) → validProcedure s p ≡ true → ValidProcedure s p
-unfolding validProcedure
-valid-procedure-parts s p h =
-    let t = both (allFinite p.trial && pointsFinite p.points) (methodAllowed s p.method) h in
-    let u = both (allFinite p.trial) (pointsFinite p.points) t.0 in
-    record { trial-finite = u.0; points-finite = u.1; method-allowed = t.1 }
+pub valid_procedure_parts : (s : ℕ) (p : Procedure) → valid_procedure s p ≡ true → ValidProcedure s p
+unfolding valid_procedure
+valid_procedure_parts s p h =
+    let t = both (all_finite p.trial && points_finite p.points) (method_allowed s p.method) h in
+    let u = both (all_finite p.trial) (points_finite p.points) t.0 in
+    record { trial_finite = u.0; points_finite_holds = u.1; method_allowed_holds = t.1 }
 
-pub valid-procedure : (s : ℕ) (p : Procedure) → ValidProcedure s p → validProcedure s p ≡ true
-unfolding validProcedure
-valid-procedure s p v = rw (v.trial-finite, v.points-finite, v.method-allowed)
+pub valid-procedure : (s : ℕ) (p : Procedure) → ValidProcedure s p → valid_procedure s p ≡ true
+unfolding valid_procedure
+valid-procedure s p v = rw (v.trial_finite, v.points_finite_holds, v.method_allowed_holds)
 
-pub valid-parameter-parts : (s k : ℕ) (p : Parameter) → validParameter s k p ≡ true → (finite p.sentinel ≡ true) × (unitsValid s k p.units ≡ true)
-unfolding validParameter
-valid-parameter-parts s k p h = both (finite p.sentinel) (unitsValid s k p.units) h
+pub valid_parameter_parts : (s k : ℕ) (p : Parameter) → valid_parameter s k p ≡ true → (finite p.sentinel ≡ true) × (units_valid s k p.units ≡ true)
+unfolding valid_parameter
+valid_parameter_parts s k p h = both (finite p.sentinel) (units_valid s k p.units) h
 
-pub valid-parameter : (s k : ℕ) (p : Parameter) → finite p.sentinel ≡ true → unitsValid s k p.units ≡ true → validParameter s k p ≡ true
-unfolding validParameter
-valid-parameter s k p f u = rw (f, u)
+pub valid_parameter_lem : (s k : ℕ) (p : Parameter) → finite p.sentinel ≡ true → units_valid s k p.units ≡ true → valid_parameter s k p ≡ true
+unfolding valid_parameter
+valid_parameter_lem s k p f u = rw (f, u)
 
 pub record ValidParameters (s : ℕ) (q : Parameters) : Type 0 where
-  pub level-valid : levelValid s q.level ≡ true
-  pub valid1 : validParameter s 1 q.parameter1 ≡ true
-  pub valid2 : validParameter s 2 q.parameter2 ≡ true
-  pub valid3 : validParameter s 3 q.parameter3 ≡ true
+  pub level_valid_holds : level_valid s q.level ≡ true
+  pub valid1 : valid_parameter s 1 q.parameter1 ≡ true
+  pub valid2 : valid_parameter s 2 q.parameter2 ≡ true
+  pub valid3 : valid_parameter s 3 q.parameter3 ≡ true
 
-pub valid-parameters-parts : (s : ℕ) (q : Parameters) → validParameters s q ≡ true → ValidParameters s q
-unfolding validParameters
-valid-parameters-parts s q h =
-    let l = levelValid s q.level in
-    let a = validParameter s 1 q.parameter1 in
-    let b = validParameter s 2 q.parameter2 in
-    let t3 = both (l && a && b) (validParameter s 3 q.parameter3) h in
+pub valid_parameters_parts : (s : ℕ) (q : Parameters) → valid_parameters s q ≡ true → ValidParameters s q
+unfolding valid_parameters
+valid_parameters_parts s q h =
+    let l = level_valid s q.level in
+    let a = valid_parameter s 1 q.parameter1 in
+    let b = valid_parameter s 2 q.parameter2 in
+    let t3 = both (l && a && b) (valid_parameter s 3 q.parameter3) h in
     let t2 = both (l && a) b t3.0 in
     let t1 = both l a t2.0 in
-    record { level-valid = t1.0; valid1 = t1.1; valid2 = t2.1; valid3 = t3.1 }
+    record { level_valid_holds = t1.0; valid1 = t1.1; valid2 = t2.1; valid3 = t3.1 }
 
-pub valid-parameters : (s : ℕ) (q : Parameters) → ValidParameters s q → validParameters s q ≡ true
-unfolding validParameters
-valid-parameters s q v = rw (v.level-valid, v.valid1, v.valid2, v.valid3)
+pub valid-parameters : (s : ℕ) (q : Parameters) → ValidParameters s q → valid_parameters s q ≡ true
+unfolding valid_parameters
+valid-parameters s q v = rw (v.level_valid_holds, v.valid1, v.valid2, v.valid3)
 
 -- parameter k of valid parameters is valid
-pub parameter-valid : (s : ℕ) (q : Parameters) (k : ℕ) → 1 ≤ k → k ≤ 3 → validParameters s q ≡ true → validParameter s k (parameterOf q k) ≡ true
-unfolding parameterOf
-parameter-valid s q (suc zero) l m h = (valid-parameters-parts s q h).valid1
-parameter-valid s q (suc (suc zero)) l m h = (valid-parameters-parts s q h).valid2
-parameter-valid s q (suc (suc (suc zero))) l m h = (valid-parameters-parts s q h).valid3
-parameter-valid s q zero l m h = absurd (omega arith)
-parameter-valid s q (suc (suc (suc (suc k)))) l m h = absurd (omega arith)
+pub parameter_valid : (s : ℕ) (q : Parameters) (k : ℕ) → 1 ≤ k → k ≤ 3 → valid_parameters s q ≡ true → valid_parameter s k (parameter_of q k) ≡ true
+unfolding parameter_of
+parameter_valid s q (suc zero) l m h = (valid_parameters_parts s q h).valid1
+parameter_valid s q (suc (suc zero)) l m h = (valid_parameters_parts s q h).valid2
+parameter_valid s q (suc (suc (suc zero))) l m h = (valid_parameters_parts s q h).valid3
+parameter_valid s q zero l m h = absurd (omega arith)
+parameter_valid s q (suc (suc (suc (suc k)))) l m h = absurd (omega arith)
 
 pub record ValidSetup (s : ℕ) (x : Setup) : Type 0 where
-  pub calibration-valid : validCalibration s x.active.calibration ≡ true
-  pub procedure-valid : validProcedure s x.procedure ≡ true
-  pub parameters-valid : validParameters s x.parameters ≡ true
+  pub calibration_valid : valid_calibration s x.active.calibration ≡ true
+  pub procedure_valid : valid_procedure s x.procedure ≡ true
+  pub parameters_valid : valid_parameters s x.parameters ≡ true
 
 -- a valid setup has each part
-pub valid-setup-parts : (s : ℕ) (x : Setup) → validSetup s x ≡ true → ValidSetup s x
-unfolding validSetup
-valid-setup-parts s x h =
-    let c = validCalibration s x.active.calibration in
-    let p = validProcedure s x.procedure in
-    let t = both (c && p) (validParameters s x.parameters) h in
+pub valid_setup_parts : (s : ℕ) (x : Setup) → valid_setup s x ≡ true → ValidSetup s x
+unfolding valid_setup
+valid_setup_parts s x h =
+    let c = valid_calibration s x.active.calibration in
+    let p = valid_procedure s x.procedure in
+    let t = both (c && p) (valid_parameters s x.parameters) h in
     let u = both c p t.0 in
-    record { calibration-valid = u.0; procedure-valid = u.1; parameters-valid = t.1 }
+    record { calibration_valid = u.0; procedure_valid = u.1; parameters_valid = t.1 }
 
 -- a setup with each part is valid
-pub valid-setup : (s : ℕ) (x : Setup) → ValidSetup s x → validSetup s x ≡ true
-unfolding validSetup
-valid-setup s x v = rw (v.calibration-valid, v.procedure-valid, v.parameters-valid)
+pub valid-setup : (s : ℕ) (x : Setup) → ValidSetup s x → valid_setup s x ≡ true
+unfolding valid_setup
+valid-setup s x v = rw (v.calibration_valid, v.procedure_valid, v.parameters_valid)
 
 -- the coefficients in force of a valid setup are finite and in limits
-pub active-parts : (s : ℕ) (x : Setup) → validSetup s x ≡ true
-    → (allFinite (coefficientsOf x.active.calibration) ≡ true) × (inLimits s (coefficientsOf x.active.calibration) ≡ true)
-active-parts s x h = valid-calibration-parts s x.active.calibration (valid-setup-parts s x h).calibration-valid
+pub active_parts : (s : ℕ) (x : Setup) → valid_setup s x ≡ true
+    → (all_finite (coefficients_of x.active.calibration) ≡ true) × (in_limits s (coefficients_of x.active.calibration) ≡ true)
+active_parts s x h = valid_calibration_parts s x.active.calibration (valid_setup_parts s x h).calibration_valid
 
 -- the parts of a valid sensor
-pub valid-sensor-parts : (s : ℕ) (x : Sensor) → validSensor s x ≡ true
-    → (validSetup s x.setup ≡ true) × (finite x.sample.raw1 ≡ true) × (finite x.sample.raw2 ≡ true)
-unfolding validSensor
-valid-sensor-parts s x h =
-    let t = both (validSetup s x.setup && finite x.sample.raw1) (finite x.sample.raw2) h in
-    let u = both (validSetup s x.setup) (finite x.sample.raw1) t.0 in
+pub valid_sensor_parts : (s : ℕ) (x : Sensor) → valid_sensor s x ≡ true
+    → (valid_setup s x.setup ≡ true) × (finite x.sample.raw1 ≡ true) × (finite x.sample.raw2 ≡ true)
+unfolding valid_sensor
+valid_sensor_parts s x h =
+    let t = both (valid_setup s x.setup && finite x.sample.raw1) (finite x.sample.raw2) h in
+    let u = both (valid_setup s x.setup) (finite x.sample.raw1) t.0 in
     (u.0, u.1, t.1)
 
 -- ---- floats of the format
 
 pub record ProcedureFits (p : Procedure) : Type 0 where
-  pub fits-trial : CoefficientsFit p.trial
-  pub fits-points : PointsFit p.points
+  pub fits_trial : CoefficientsFit p.trial
+  pub fits_points : PointsFit p.points
 
 pub record ParametersFit (q : Parameters) : Type 0 where
   pub fits1 : T (fits binary32 q.parameter1.sentinel)
@@ -140,14 +140,14 @@ pub record ParametersFit (q : Parameters) : Type 0 where
   pub fits3 : T (fits binary32 q.parameter3.sentinel)
 
 pub record SetupFits (x : Setup) : Type 0 where
-  pub fits-calibration : CoefficientsFit (coefficientsOf x.active.calibration)
-  pub fits-procedure : ProcedureFits x.procedure
-  pub fits-parameters : ParametersFit x.parameters
+  pub fits_calibration : CoefficientsFit (coefficients_of x.active.calibration)
+  pub fits_procedure : ProcedureFits x.procedure
+  pub fits_parameters : ParametersFit x.parameters
 
 -- the sentinel of a parameter fits the format
-pub parameter-fits : (q : Parameters) (k : ℕ) → ParametersFit q → T (fits binary32 (parameterOf q k).sentinel)
-unfolding parameterOf
-parameter-fits q k v = choose P (eqb k 1) _ _ (λ e. v.fits1) (λ e. choose P (eqb k 2) _ _ (λ e. v.fits2) (λ e. v.fits3))
+pub parameter_fits : (q : Parameters) (k : ℕ) → ParametersFit q → T (fits binary32 (parameter_of q k).sentinel)
+unfolding parameter_of
+parameter_fits q k v = choose P (eqb k 1) _ _ (λ e. v.fits1) (λ e. choose P (eqb k 2) _ _ (λ e. v.fits2) (λ e. v.fits3))
   where
     P : Parameter → Type 0
     P p = T (fits binary32 p.sentinel)
@@ -155,85 +155,85 @@ parameter-fits q k v = choose P (eqb k 1) _ _ (λ e. v.fits1) (λ e. choose P (e
 -- ---- a procedure that begins
 
 -- the direct method is allowed on every sensor
-pub direct-allowed : (s : ℕ) → methodAllowed s 0 ≡ true
-unfolding methodAllowed
-direct-allowed s = choose (λ t. t ≡ true) (eqb s 3) _ _ (λ e. refl) (λ e. refl)
+pub direct_allowed : (s : ℕ) → method_allowed s 0 ≡ true
+unfolding method_allowed
+direct_allowed s = choose (λ t. t ≡ true) (eqb s 3) _ _ (λ e. refl) (λ e. refl)
 
 -- with finite trial coefficients it is valid
-pub new-procedure-valid : (s : ℕ) (mode : Bool) (c : Coefficients) → allFinite c ≡ true → validProcedure s (newProcedure mode c) ≡ true
-unfolding newProcedure pointsFinite
-new-procedure-valid s mode c f = valid-procedure s (newProcedure mode c) (record { trial-finite = f; points-finite = rw plus-zero-finite; method-allowed = direct-allowed s })
+pub new_procedure-valid : (s : ℕ) (mode : Bool) (c : Coefficients) → all_finite c ≡ true → valid_procedure s (new_procedure mode c) ≡ true
+unfolding new_procedure points_finite
+new_procedure-valid s mode c f = valid-procedure s (new_procedure mode c) (record { trial_finite = f; points_finite_holds = rw plus_zero_finite; method_allowed_holds = direct_allowed s })
 
 -- and with those of the format of the format
-pub new-procedure-fits : (mode : Bool) (c : Coefficients) → CoefficientsFit c → ProcedureFits (newProcedure mode c)
-unfolding newProcedure
-new-procedure-fits mode c f =
+pub new_procedure_fits : (mode : Bool) (c : Coefficients) → CoefficientsFit c → ProcedureFits (new_procedure mode c)
+unfolding new_procedure
+new_procedure_fits mode c f =
     let z = of_bits-fits binary32 0 in
-    record { fits-trial = f; fits-points = record { fits-x1 = z; fits-y1 = z; fits-x2 = z; fits-y2 = z } }
+    record { fits_trial = f; fits_points = record { fits_x1 = z; fits_y1 = z; fits_x2 = z; fits_y2 = z } }
 
 -- ---- fresh, and after a power-up
 
 -- the default units are listed
-default-units : (k : ℕ) → 1 ≤ k → k ≤ 3 → (s : ℕ) → 1 ≤ s → s ≤ 4 → unitsValid s k (defaultUnits (id_of s k)) ≡ true
-unfolding unitsValid defaultUnits id_of unitsAllowed
-default-units (suc zero) l h = sensor-cases (λ s. unitsValid s 1 (defaultUnits (id_of s 1)) ≡ true) refl refl refl refl
-default-units (suc (suc zero)) l h = sensor-cases (λ s. unitsValid s 2 (defaultUnits (id_of s 2)) ≡ true) refl refl refl refl
-default-units (suc (suc (suc zero))) l h = sensor-cases (λ s. unitsValid s 3 (defaultUnits (id_of s 3)) ≡ true) refl refl refl refl
-default-units zero l h = absurd (omega arith)
-default-units (suc (suc (suc (suc k)))) l h = absurd (omega arith)
+default_units_lem : (k : ℕ) → 1 ≤ k → k ≤ 3 → (s : ℕ) → 1 ≤ s → s ≤ 4 → units_valid s k (default_units (id_of s k)) ≡ true
+unfolding units_valid default_units id_of units_allowed
+default_units_lem (suc zero) l h = sensor_cases (λ s. units_valid s 1 (default_units (id_of s 1)) ≡ true) refl refl refl refl
+default_units_lem (suc (suc zero)) l h = sensor_cases (λ s. units_valid s 2 (default_units (id_of s 2)) ≡ true) refl refl refl refl
+default_units_lem (suc (suc (suc zero))) l h = sensor_cases (λ s. units_valid s 3 (default_units (id_of s 3)) ≡ true) refl refl refl refl
+default_units_lem zero l h = absurd (omega arith)
+default_units_lem (suc (suc (suc (suc k)))) l h = absurd (omega arith)
 
-fresh-level : (s : ℕ) → levelValid s 3 ≡ true
-unfolding levelValid levelAllowed
-fresh-level s = choose (λ t. t ≡ true) (eqb s 3) _ _ (λ e. refl) (λ e. refl)
+fresh_level : (s : ℕ) → level_valid s 3 ≡ true
+unfolding level_valid level_allowed
+fresh_level s = choose (λ t. t ≡ true) (eqb s 3) _ _ (λ e. refl) (λ e. refl)
 
-fresh-parameters-valid : (s : ℕ) → 1 ≤ s → s ≤ 4 → validParameters s (freshParameters s) ≡ true
-unfolding freshParameters freshParameter
-fresh-parameters-valid s l h =
-    valid-parameters s (freshParameters s)
+fresh_parameters-valid : (s : ℕ) → 1 ≤ s → s ≤ 4 → valid_parameters s (fresh_parameters s) ≡ true
+unfolding fresh_parameters fresh_parameter
+fresh_parameters-valid s l h =
+    valid-parameters s (fresh_parameters s)
     (record {
-      level-valid = fresh-level s;
-      valid1 = valid-parameter s 1 _ plus-zero-finite (default-units 1 (omega arith) (omega arith) s l h);
-      valid2 = valid-parameter s 2 _ plus-zero-finite (default-units 2 (omega arith) (omega arith) s l h);
-      valid3 = valid-parameter s 3 _ plus-zero-finite (default-units 3 (omega arith) (omega arith) s l h);
+      level_valid_holds = fresh_level s;
+      valid1 = valid_parameter_lem s 1 _ plus_zero_finite (default_units_lem 1 (omega arith) (omega arith) s l h);
+      valid2 = valid_parameter_lem s 2 _ plus_zero_finite (default_units_lem 2 (omega arith) (omega arith) s l h);
+      valid3 = valid_parameter_lem s 3 _ plus_zero_finite (default_units_lem 3 (omega arith) (omega arith) s l h);
     })
 
-fresh-parameters-fit : (s : ℕ) → ParametersFit (freshParameters s)
-unfolding freshParameters freshParameter
-fresh-parameters-fit s = let z = of_bits-fits binary32 0 in record { fits1 = z; fits2 = z; fits3 = z }
+fresh_parameters_fit : (s : ℕ) → ParametersFit (fresh_parameters s)
+unfolding fresh_parameters fresh_parameter
+fresh_parameters_fit s = let z = of_bits-fits binary32 0 in record { fits1 = z; fits2 = z; fits3 = z }
 
 -- a setup after a power-up is valid where its calibration is
-pub powered-valid : (s : ℕ) (c : Calibration) → 1 ≤ s → s ≤ 4 → validCalibration s c ≡ true → validSetup s (poweredSetup s c) ≡ true
-unfolding poweredSetup
-powered-valid s c l h v =
-    valid-setup s (poweredSetup s c)
+pub powered_valid : (s : ℕ) (c : Calibration) → 1 ≤ s → s ≤ 4 → valid_calibration s c ≡ true → valid_setup s (powered_setup s c) ≡ true
+unfolding powered_setup
+powered_valid s c l h v =
+    valid-setup s (powered_setup s c)
     (record {
-      calibration-valid = v;
-      procedure-valid = new-procedure-valid s false (coefficientsOf c) (valid-calibration-parts s c v).0;
-      parameters-valid = fresh-parameters-valid s l h;
+      calibration_valid = v;
+      procedure_valid = new_procedure-valid s false (coefficients_of c) (valid_calibration_parts s c v).0;
+      parameters_valid = fresh_parameters-valid s l h;
     })
 
 -- and of the format where its calibration is
-pub powered-fits : (s : ℕ) (c : Calibration) → CoefficientsFit (coefficientsOf c) → SetupFits (poweredSetup s c)
-unfolding poweredSetup
-powered-fits s c f =
-    record { fits-calibration = f; fits-procedure = new-procedure-fits false (coefficientsOf c) f; fits-parameters = fresh-parameters-fit s }
+pub powered_fits : (s : ℕ) (c : Calibration) → CoefficientsFit (coefficients_of c) → SetupFits (powered_setup s c)
+unfolding powered_setup
+powered_fits s c f =
+    record { fits_calibration = f; fits_procedure = new_procedure_fits false (coefficients_of c) f; fits_parameters = fresh_parameters_fit s }
 
 -- a fresh setup is one with the default calibration
-fresh-powered : (s : ℕ) → poweredSetup s (calibrationOf (defaultsOf s) 0) ≡ freshSetup s
-unfolding poweredSetup freshSetup
-fresh-powered s = refl
+fresh_powered : (s : ℕ) → powered_setup s (calibration_of (defaults_of s) 0) ≡ fresh_setup s
+unfolding powered_setup fresh_setup
+fresh_powered s = refl
 
 -- so it is valid
-pub fresh-valid : (s : ℕ) → 1 ≤ s → s ≤ 4 → validSetup s (freshSetup s) ≡ true
-fresh-valid s l h =
-    let c = calibrationOf (defaultsOf s) 0 in
-    rw (← (fresh-powered s)) (powered-valid s c l h (valid-calibration s c (defaults-in-limits s l h)))
+pub fresh_valid : (s : ℕ) → 1 ≤ s → s ≤ 4 → valid_setup s (fresh_setup s) ≡ true
+fresh_valid s l h =
+    let c = calibration_of (defaults_of s) 0 in
+    rw (← (fresh_powered s)) (powered_valid s c l h (valid_calibration_lem s c (defaults_in_limits s l h)))
 
 -- and of the format
-pub fresh-fits : (s : ℕ) → SetupFits (freshSetup s)
-fresh-fits s = rw (← (fresh-powered s)) (powered-fits s (calibrationOf (defaultsOf s) 0) (defaults-fit s))
+pub fresh_fits : (s : ℕ) → SetupFits (fresh_setup s)
+fresh_fits s = rw (← (fresh_powered s)) (powered_fits s (calibration_of (defaults_of s) 0) (defaults_fit s))
 
 -- a fresh sensor is valid
-pub fresh-sensor-valid : (s : ℕ) → 1 ≤ s → s ≤ 4 → validSensor s (freshSensor s) ≡ true
-unfolding validSensor freshSensor
-fresh-sensor-valid s l h = rw (fresh-valid s l h, plus-zero-finite)
+pub fresh_sensor-valid : (s : ℕ) → 1 ≤ s → s ≤ 4 → valid_sensor s (fresh_sensor s) ≡ true
+unfolding valid_sensor fresh_sensor
+fresh_sensor-valid s l h = rw (fresh_valid s l h, plus_zero_finite)

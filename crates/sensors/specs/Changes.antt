@@ -1,8 +1,8 @@
 -- The parts of a sensor's state, and what changes in them. Document 01, "Calibration" and "Sonde and calls" ("Measure stores the raws that it
 -- reads"). Assumes nothing.
 use Rattle.std.specs.Prelude.{Bool, cond, ℕ, eqb, Float}
-use Rattle.floats.specs.Floats.{plusZero}
-use Rattle.coefficients.specs.Coefficients.{calibrationOf, coefficientsOf}
+use Rattle.floats.specs.Floats.{plus_zero}
+use Rattle.coefficients.specs.Coefficients.{calibration_of, coefficients_of}
 use Rattle.methods.specs.Methods.{points}
 use Rattle.coefficients.specs.declared.Coefficients.{Coefficients}
 use Rattle.coefficients.specs.declared.Calibration.{Calibration}
@@ -30,45 +30,45 @@ abbrev pub setup : Procedure → Active → Parameters → Setup
 setup p a q = record { procedure = p; active = a; parameters = q }
 
 -- one part replaced
-abbrev pub withProcedure : Setup → Procedure → Setup
-withProcedure s p = setup p s.active s.parameters
+abbrev pub with_procedure : Setup → Procedure → Setup
+with_procedure s p = setup p s.active s.parameters
 
-abbrev pub withActive : Setup → Active → Setup
-withActive s a = setup s.procedure a s.parameters
+abbrev pub with_active : Setup → Active → Setup
+with_active s a = setup s.procedure a s.parameters
 
-abbrev pub withParameters : Setup → Parameters → Setup
-withParameters s q = setup s.procedure s.active q
+abbrev pub with_parameters : Setup → Parameters → Setup
+with_parameters s q = setup s.procedure s.active q
 
 -- ---- a calibration
 
 -- "mode on [off], trial := .., method := 0, points := +0.0"
-unfoldable pub newProcedure : Bool → Coefficients → Procedure
-newProcedure calibrating c = procedure calibrating c 0 (points plusZero plusZero plusZero plusZero)
+unfoldable pub new_procedure : Bool → Coefficients → Procedure
+new_procedure calibrating c = procedure calibrating c 0 (points plus_zero plus_zero plus_zero plus_zero)
 
 -- other trial coefficients alone; what is active stays
-abbrev pub withTrial : Setup → Coefficients → Setup
-withTrial s c = withProcedure s (procedure s.procedure.calibrating c s.procedure.method s.procedure.points)
+abbrev pub with_trial : Setup → Coefficients → Setup
+with_trial s c = with_procedure s (procedure s.procedure.calibrating c s.procedure.method s.procedure.points)
 
-abbrev pub withPoints : Procedure → Points → Procedure
-withPoints p q = procedure p.calibrating p.trial p.method q
+abbrev pub with_points : Procedure → Points → Procedure
+with_points p q = procedure p.calibrating p.trial p.method q
 
 -- "mode on [off], trial := in force, method := 0, points := +0.0"
 unfoldable pub restarted : Setup → Bool → Setup
-restarted s calibrating = withProcedure s (newProcedure calibrating (coefficientsOf s.active.calibration))
+restarted s calibrating = with_procedure s (new_procedure calibrating (coefficients_of s.active.calibration))
 
 -- "the candidate becomes in force and trial, last calibration := clock, next := 0, .. mode stays on"
-unfoldable pub calibratedAt : Setup → Coefficients → ℕ → Setup
-calibratedAt s c clock = withActive (withTrial s c) (active (calibrationOf c clock) 0)
+unfoldable pub calibrated_at : Setup → Coefficients → ℕ → Setup
+calibrated_at s c clock = with_active (with_trial s c) (active (calibration_of c clock) 0)
 
 -- ---- parameters
 
 -- another id of the level
-abbrev pub withLevel : Parameters → ℕ → Parameters
-withLevel q level = parameters level q.parameter1 q.parameter2 q.parameter3
+abbrev pub with_level : Parameters → ℕ → Parameters
+with_level q level = parameters level q.parameter1 q.parameter2 q.parameter3
 
 -- parameter 1, 2 or 3 replaced
-unfoldable pub withParameter : Parameters → ℕ → Parameter → Parameters
-withParameter q k p =
+unfoldable pub with_parameter : Parameters → ℕ → Parameter → Parameters
+with_parameter q k p =
     cond (eqb k 1) (parameters q.level p q.parameter2 q.parameter3)
     (cond (eqb k 2) (parameters q.level q.parameter1 p q.parameter3) (parameters q.level q.parameter1 q.parameter2 p))
 
@@ -78,17 +78,17 @@ abbrev pub sample : Bool → Float → Float → Sample
 sample present raw1 raw2 = record { present = present; raw1 = raw1; raw2 = raw2 }
 
 -- "Measure stores the raws that it reads; not present, it reads none and keeps the old"; "the second is read for sensor 1 only"
-unfoldable pub measuredOf : Sample → ℕ → Bool → Float → Float → Sample
-measuredOf x sensor present raw1 raw2 =
+unfoldable pub measured_of : Sample → ℕ → Bool → Float → Float → Sample
+measured_of x sensor present raw1 raw2 =
     cond present (cond (eqb sensor 1) (sample present raw1 raw2) (sample present raw1 x.raw2)) (sample present x.raw1 x.raw2)
 
-abbrev pub sensorOf : Setup → Sample → Sensor
-sensorOf s x = record { setup = s; sample = x }
+abbrev pub sensor_of : Setup → Sample → Sensor
+sensor_of s x = record { setup = s; sample = x }
 
 -- "Methods with self and mut self on sonde and sensor, handing the state back": a measurement keeps the setup
-unfoldable pub measuredSensor : Sensor → ℕ → Bool → Float → Float → Sensor
-measuredSensor x sensor present raw1 raw2 = sensorOf x.setup (measuredOf x.sample sensor present raw1 raw2)
+unfoldable pub measured_sensor : Sensor → ℕ → Bool → Float → Float → Sensor
+measured_sensor x sensor present raw1 raw2 = sensor_of x.setup (measured_of x.sample sensor present raw1 raw2)
 
 -- and a new setup keeps the sample
-unfoldable pub sensorWithSetup : Sensor → Setup → Sensor
-sensorWithSetup x s = sensorOf s x.sample
+unfoldable pub sensor_with_setup : Sensor → Setup → Sensor
+sensor_with_setup x s = sensor_of s x.sample

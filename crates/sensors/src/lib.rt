@@ -1,7 +1,7 @@
 // The state of one sensor: what frames write and a calibration decides, and what measurements write.
 ghost use Rattle.std.specs.Prelude.{◌≡◌};
-ghost use Rattle.sensors.specs.Changes.{newProcedure, withTrial, withParameter, restarted, calibratedAt, measuredOf, measuredSensor, sensorWithSetup};
-ghost use Rattle.sensors.specs.Sensors.{parameterOf, freshParameter, freshParameters, freshSetup, poweredSetup, freshSample, freshSensor, unitsValid, levelValid, validProcedure, validParameter, validParameters, validSetup, validSensor};
+ghost use Rattle.sensors.specs.Changes.{new_procedure, with_trial, with_parameter, restarted, calibrated_at, measured_of, measured_sensor, sensor_with_setup};
+ghost use Rattle.sensors.specs.Sensors.{parameter_of, fresh_parameter, fresh_parameters, fresh_setup, powered_setup, fresh_sample, fresh_sensor, units_valid, level_valid, valid_procedure, valid_parameter, valid_parameters, valid_setup, valid_sensor};
 
 use coefficients::{Calibration, Coefficients};
 use entries::{calibration_valid, method_allowed, points_finite};
@@ -71,7 +71,7 @@ pub struct Sensor {
 impl Parameter {
     // Parameter k of a sensor as it is when fresh; where there is none, units 0.
     pub fn fresh(sensor: u16, k: u16) -> Self
-        ensures { result ≡ freshParameter sensor k }
+        ensures { result ≡ fresh_parameter sensor k }
     {
         let id = parameters::parameter_id(sensor, k);
         Parameter {
@@ -82,7 +82,7 @@ impl Parameter {
 
     // Units that are listed and a finite sentinel.
     fn is_valid(self, sensor: u16, k: u16) -> bool
-        ensures { result ≡ validParameter sensor k self }
+        ensures { result ≡ valid_parameter sensor k self }
     {
         floats::is_finite(self.sentinel) & units_valid(sensor, k, self.units)
     }
@@ -90,7 +90,7 @@ impl Parameter {
 
 impl Parameters {
     pub fn fresh(sensor: u16) -> Self
-        ensures { result ≡ freshParameters sensor }
+        ensures { result ≡ fresh_parameters sensor }
     {
         Parameters {
             level: 3,
@@ -102,7 +102,7 @@ impl Parameters {
 
     // Parameter 1, 2 or 3.
     pub fn parameter(self, k: u16) -> Parameter
-        ensures { result ≡ parameterOf self k }
+        ensures { result ≡ parameter_of self k }
     {
         match k {
             1 => self.parameter1,
@@ -113,7 +113,7 @@ impl Parameters {
 
     // Parameter 1, 2 or 3 replaced.
     pub fn with_parameter(mut self, k: u16, p: Parameter) -> Self
-        ensures { result ≡ withParameter self k p }
+        ensures { result ≡ with_parameter self k p }
     {
         match k {
             1 => self.parameter1 = p,
@@ -124,7 +124,7 @@ impl Parameters {
     }
 
     fn is_valid(self, sensor: u16) -> bool
-        ensures { result ≡ validParameters sensor self }
+        ensures { result ≡ valid_parameters sensor self }
     {
         let a = self.parameter1;
         let b = self.parameter2;
@@ -139,7 +139,7 @@ impl Parameters {
 impl Procedure {
     // As a calibration begins and ends: trial coefficients c, method 0 and points +0.0.
     pub fn new(calibrating: bool, c: Coefficients) -> Self
-        ensures { result ≡ newProcedure calibrating c }
+        ensures { result ≡ new_procedure calibrating c }
     {
         Procedure {
             calibrating,
@@ -155,7 +155,7 @@ impl Procedure {
     }
 
     fn is_valid(self, sensor: u16) -> bool
-        ensures { result ≡ validProcedure sensor self }
+        ensures { result ≡ valid_procedure sensor self }
     {
         let trial = self.trial;
         trial.is_finite() & points_finite(self.points) & method_allowed(sensor, self.method)
@@ -164,7 +164,7 @@ impl Procedure {
 
 impl Setup {
     pub fn fresh(sensor: u16) -> Self
-        ensures { result ≡ freshSetup sensor }
+        ensures { result ≡ fresh_setup sensor }
     {
         let c = Coefficients::defaults(sensor);
         Setup {
@@ -179,7 +179,7 @@ impl Setup {
 
     // As after a power-up: the replayed calibration, all else as when fresh.
     pub fn powered(sensor: u16, c: Calibration) -> Self
-        ensures { result ≡ poweredSetup sensor c }
+        ensures { result ≡ powered_setup sensor c }
     {
         Setup {
             procedure: Procedure::new(false, c.coefficients()),
@@ -193,7 +193,7 @@ impl Setup {
 
     // Document 01: what a sound sonde asks of one sensor, its raw values left out.
     pub fn is_valid(self, sensor: u16) -> bool
-        ensures { result ≡ validSetup sensor self }
+        ensures { result ≡ valid_setup sensor self }
     {
         let procedure = self.procedure;
         let active = self.active;
@@ -216,7 +216,7 @@ impl Setup {
 
     // Other trial coefficients.
     pub fn with_trial(mut self, c: Coefficients) -> Self
-        ensures { result ≡ withTrial self c }
+        ensures { result ≡ with_trial self c }
     {
         let mut procedure = self.procedure;
         procedure.trial = c;
@@ -226,7 +226,7 @@ impl Setup {
 
     // The coefficients come into force and are the trial ones, calibrated at the clock; no next calibration is set.
     pub fn calibrate(self, c: Coefficients, clock: u32) -> Self
-        ensures { result ≡ calibratedAt self c clock }
+        ensures { result ≡ calibrated_at self c clock }
     {
         let mut s = self.with_trial(c);
         let calibration = c.calibration(clock);
@@ -240,7 +240,7 @@ impl Setup {
 
 impl Sample {
     pub fn fresh() -> Self
-        ensures { result ≡ freshSample }
+        ensures { result ≡ fresh_sample }
     {
         Sample {
             present: false,
@@ -251,7 +251,7 @@ impl Sample {
 
     // A measurement. The second raw is read for sensor 1 only; not present, none is read and the old ones stay.
     pub fn measure(mut self, sensor: u16, present: bool, raw1: f32, raw2: f32) -> Self
-        ensures { result ≡ measuredOf self sensor present raw1 raw2 }
+        ensures { result ≡ measured_of self sensor present raw1 raw2 }
     {
         self.present = present;
         if !present {
@@ -267,7 +267,7 @@ impl Sample {
 
 impl Sensor {
     pub fn fresh(sensor: u16) -> Self
-        ensures { result ≡ freshSensor sensor }
+        ensures { result ≡ fresh_sensor sensor }
     {
         Sensor {
             setup: Setup::fresh(sensor),
@@ -276,7 +276,7 @@ impl Sensor {
     }
 
     pub fn is_valid(self, sensor: u16) -> bool
-        ensures { result ≡ validSensor sensor self }
+        ensures { result ≡ valid_sensor sensor self }
     {
         let setup = self.setup;
         let sample = self.sample;
@@ -285,7 +285,7 @@ impl Sensor {
 
     // A measurement; the setup stays.
     pub fn measure(mut self, sensor: u16, present: bool, raw1: f32, raw2: f32) -> Self
-        ensures { result ≡ measuredSensor self sensor present raw1 raw2 }
+        ensures { result ≡ measured_sensor self sensor present raw1 raw2 }
     {
         let before = self.sample;
         let sample = before.measure(sensor, present, raw1, raw2);
@@ -295,7 +295,7 @@ impl Sensor {
 
     // A new setup; the sample stays.
     pub fn with_setup(mut self, setup: Setup) -> Self
-        ensures { result ≡ sensorWithSetup self setup }
+        ensures { result ≡ sensor_with_setup self setup }
     {
         self.setup = setup;
         self
@@ -304,7 +304,7 @@ impl Sensor {
 
 // The units of a parameter that the sensor has are listed; others aren't looked at.
 fn units_valid(sensor: u16, k: u16, units: u16) -> bool
-    ensures { result ≡ unitsValid sensor k units }
+    ensures { result ≡ units_valid sensor k units }
 {
     let id = parameters::parameter_id(sensor, k);
     if id == 0 {
@@ -315,7 +315,7 @@ fn units_valid(sensor: u16, k: u16, units: u16) -> bool
 
 // The level's id is listed; of a sensor without a level it isn't looked at.
 fn level_valid(sensor: u16, level: u16) -> bool
-    ensures { result ≡ levelValid sensor level }
+    ensures { result ≡ level_valid sensor level }
 {
     if sensor == 3 {
         return parameters::level_allowed(level);

@@ -7,40 +7,40 @@ use lib.Dec.{eqb, lit≤}
 use lib.ListN.{length, take}
 use lib.Seq.{length-take-le}
 use Rattle.words.specs.Bytes.{bytes_of}
-use Rattle.words.proofs.Bytes.{bytes-length}
+use Rattle.words.proofs.Bytes.{bytes_length}
 use Rattle.floats.proofs.Bools.{choose}
 use Rattle.modbus.specs.declared.Header.{Header}
-use Rattle.replies.specs.Reply.{read_body, writtenBody, exceptionBody}
+use Rattle.replies.specs.Reply.{read_body, written_body, exception_body}
 use Rattle.replies.proofs.RoundTrip.{Sized}
-use Rattle.service.specs.Frame.{sent, refusalBody, writeBody}
+use Rattle.service.specs.Frame.{sent, refusal_body, write_body}
 
-pub none-sized : Sized []
-none-sized = record { least = λ h. absurd (h refl); most = lit≤ tt }
+pub none_sized : Sized []
+none_sized = record { least = λ h. absurd (h refl); most = lit≤ tt }
 
 module _ (h : Header) (body : List ℕ) where
-  sent-sized : (b : List ℕ) → Sized b → Sized (sent h b)
+  sent_sized : (b : List ℕ) → Sized b → Sized (sent h b)
   unfolding sent
-  sent-sized b l = choose Sized (eqb h.address 0) [] b (λ e. none-sized) (λ e. l)
+  sent_sized b l = choose Sized (eqb h.address 0) [] b (λ e. none_sized) (λ e. l)
 
-  pub refusal-sized : (code : ℕ) → Sized (refusalBody h code)
-  unfolding exceptionBody
-  refusal-sized code = sent-sized (exceptionBody h.address h.function code) (record { least = λ n. lit≤ tt; most = lit≤ tt })
+  pub refusal_sized : (code : ℕ) → Sized (refusal_body h code)
+  unfolding exception_body
+  refusal_sized code = sent_sized (exception_body h.address h.function code) (record { least = λ n. lit≤ tt; most = lit≤ tt })
 
-  written-sized : length body ≤ 254 → 6 ≤ length body → Sized (writtenBody h.function body)
-  unfolding writtenBody
-  written-sized l m =
+  written_sized : length body ≤ 254 → 6 ≤ length body → Sized (written_body h.function body)
+  unfolding written_body
+  written_sized l m =
       choose Sized (eqb h.function 16) (take 6 body) body
       (λ e. record { least = λ n. omega (arith, length-take-le 6 body m); most = omega (arith, length-take-le 6 body m) })
       (λ e. record { least = λ n. omega arith; most = l })
 
-  pub write-sized : (code : ℕ) → length body ≤ 254 → 6 ≤ length body → Sized (writeBody h body code)
-  unfolding writeBody
-  write-sized code l m =
-      choose Sized (eqb code 0) (sent h (writtenBody h.function body)) (refusalBody h code) (λ e. sent-sized (writtenBody h.function body) (written-sized l m))
-      (λ e. refusal-sized code)
+  pub write_sized : (code : ℕ) → length body ≤ 254 → 6 ≤ length body → Sized (write_body h body code)
+  unfolding write_body
+  write_sized code l m =
+      choose Sized (eqb code 0) (sent h (written_body h.function body)) (refusal_body h code) (λ e. sent_sized (written_body h.function body) (written_sized l m))
+      (λ e. refusal_sized code)
 
-pub read-sized : (address : ℕ) (words : List ℕ) → length words ≤ 125 → Sized (read_body address words)
+pub read_sized : (address : ℕ) (words : List ℕ) → length words ≤ 125 → Sized (read_body address words)
 unfolding read_body
-read-sized address words l =
-    let n : length (bytes_of words) ≡ 2 * length words = bytes-length words in
+read_sized address words l =
+    let n : length (bytes_of words) ≡ 2 * length words = bytes_length words in
     record { least = λ h. omega arith; most = omega arith }

@@ -7,45 +7,45 @@ use native.Mathlib.Omega.{arith}
 use Rattle.floats.proofs.Bools.{both}
 use Rattle.framing.specs.Framing.{Carried, body_of}
 use Rattle.framing.specs.Framing.Carried.{Bad, Body}
-use Rattle.modbus.specs.Request.{headerOf}
+use Rattle.modbus.specs.Request.{header_of}
 use Rattle.journal.specs.Journal.{IsSensor}
 use Rattle.journal.specs.Valid.{valid}
 use Rattle.journal.specs.Replay.{replays}
-use Rattle.journal.proofs.Tests.{sensor-cases}
-use Rattle.sensors.specs.Sensors.{validSensor}
-use Rattle.plans.proofs.Plans.{Facts, plan-facts}
-use Rattle.state.specs.Sonde.{sensorAt, addressValid, validSonde}
+use Rattle.journal.proofs.Tests.{sensor_cases}
+use Rattle.sensors.specs.Sensors.{valid_sensor}
+use Rattle.plans.proofs.Plans.{Facts, plan_facts}
+use Rattle.state.specs.Sonde.{sensor_at, address_valid, valid_sonde}
 use Rattle.state.specs.declared.Sonde.{Sonde}
-use Rattle.service.specs.Agrees.{openings, sameCalibrations, journalAgrees, agrees}
-use Rattle.service.specs.Frame.{planFor}
+use Rattle.service.specs.Agrees.{openings, same_calibrations, journal_agrees, agrees}
+use Rattle.service.specs.Frame.{plan_for}
 
 -- a valid sonde: its address, and each of its sensors
-pub valid-sensors : (d : Sonde) → validSonde d ≡ true → (addressValid d.address ≡ true) × ((s : ℕ) → IsSensor s → validSensor s (sensorAt d s) ≡ true)
-unfolding validSonde
-valid-sensors d h =
-    let e = both (addressValid d.address && validSensor 1 (sensorAt d 1) && validSensor 2 (sensorAt d 2) && validSensor 3 (sensorAt d 3)) _ h in
-    let c = both (addressValid d.address && validSensor 1 (sensorAt d 1) && validSensor 2 (sensorAt d 2)) _ e.0 in
-    let b = both (addressValid d.address && validSensor 1 (sensorAt d 1)) _ c.0 in
-    let a = both (addressValid d.address) _ b.0 in
-    (a.0, sensor-cases (λ s. validSensor s (sensorAt d s) ≡ true) a.1 b.1 c.1 e.1)
+pub valid_sensors : (d : Sonde) → valid_sonde d ≡ true → (address_valid d.address ≡ true) × ((s : ℕ) → IsSensor s → valid_sensor s (sensor_at d s) ≡ true)
+unfolding valid_sonde
+valid_sensors d h =
+    let e = both (address_valid d.address && valid_sensor 1 (sensor_at d 1) && valid_sensor 2 (sensor_at d 2) && valid_sensor 3 (sensor_at d 3)) _ h in
+    let c = both (address_valid d.address && valid_sensor 1 (sensor_at d 1) && valid_sensor 2 (sensor_at d 2)) _ e.0 in
+    let b = both (address_valid d.address && valid_sensor 1 (sensor_at d 1)) _ c.0 in
+    let a = both (address_valid d.address) _ b.0 in
+    (a.0, sensor_cases (λ s. valid_sensor s (sensor_at d s) ≡ true) a.1 b.1 c.1 e.1)
 
-pub valid-sonde : (d : Sonde) → addressValid d.address ≡ true → ((s : ℕ) → IsSensor s → validSensor s (sensorAt d s) ≡ true) → validSonde d ≡ true
-unfolding validSonde
-valid-sonde d a h = rw (a, h 1 (omega arith), h 2 (omega arith), h 3 (omega arith), h 4 (omega arith))
+pub valid_sonde_lem : (d : Sonde) → address_valid d.address ≡ true → ((s : ℕ) → IsSensor s → valid_sensor s (sensor_at d s) ≡ true) → valid_sonde d ≡ true
+unfolding valid_sonde
+valid_sonde_lem d a h = rw (a, h 1 (omega arith), h 2 (omega arith), h 3 (omega arith), h 4 (omega arith))
 
 pub record Agrees (d : Sonde) (w : List ℕ) : Type 0 where
-  pub sonde-valid : validSonde d ≡ true
-  pub volume-valid : valid w ≡ true
-  pub same : sameCalibrations (openings d) (replays w) ≡ true
+  pub sonde_valid : valid_sonde d ≡ true
+  pub volume_valid : valid w ≡ true
+  pub same : same_calibrations (openings d) (replays w) ≡ true
 
-pub agrees-parts : (d : Sonde) (w : List ℕ) → agrees d w ≡ true → Agrees d w
-unfolding agrees journalAgrees
-agrees-parts d w h =
-    let a = both (validSonde d) (journalAgrees (openings d) w) h in
-    let b = both (valid w) (sameCalibrations (openings d) (replays w)) a.1 in
-    record { sonde-valid = a.0; volume-valid = b.0; same = b.1 }
+pub agrees_parts : (d : Sonde) (w : List ℕ) → agrees d w ≡ true → Agrees d w
+unfolding agrees journal_agrees
+agrees_parts d w h =
+    let a = both (valid_sonde d) (journal_agrees (openings d) w) h in
+    let b = both (valid w) (same_calibrations (openings d) (replays w)) a.1 in
+    record { sonde_valid = a.0; volume_valid = b.0; same = b.1 }
 
 -- whatever a frame asks for has the facts of its plan
-pub frame-facts : (own : ℕ) (c : Carried) → Facts (body_of c) (planFor own c)
-frame-facts own Bad = tt
-frame-facts own (Body body) = plan-facts own (headerOf body) body
+pub frame_facts : (own : ℕ) (c : Carried) → Facts (body_of c) (plan_for own c)
+frame_facts own Bad = tt
+frame_facts own (Body body) = plan_facts own (header_of body) body

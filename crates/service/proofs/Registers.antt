@@ -5,41 +5,41 @@ use Prim.Native.Nat.{ℕ, zero, suc, ◌+◌, ◌/◌, ◌%◌, ◌<◌, ◌≤�
 use native.Mathlib.Nat.{add-zero}
 use native.Mathlib.Omega.{arith}
 use lib.ListN.{length}
-use Rattle.registers.specs.Registers.{registerOf}
+use Rattle.registers.specs.Registers.{register_of}
 use Rattle.registers.specs.declared.Device.{Device}
-use Rattle.state.specs.Sonde.{sensorAt}
+use Rattle.state.specs.Sonde.{sensor_at}
 use Rattle.state.specs.declared.Sonde.{Sonde}
-use Rattle.service.specs.Reads.{registerAt, shownFrom}
+use Rattle.service.specs.Reads.{register_at, shown_from}
 
 -- as many as were asked for
-pub shown-length : (f : ℕ → ℕ) (r n : ℕ) → length (shownFrom f r n) ≡ n
-shown-length f r zero = refl
-shown-length f r (suc n) = ap suc (shown-length f (suc r) n)
+pub shown_length : (f : ℕ → ℕ) (r n : ℕ) → length (shown_from f r n) ≡ n
+shown_length f r zero = refl
+shown_length f r (suc n) = ap suc (shown_length f (suc r) n)
 
 -- the last of n + 1 registers
-pub shown-more : (f : ℕ → ℕ) (r n : ℕ) → shownFrom f r (suc n) ≡ shownFrom f r n ++ f (r + n) ∷ []
-shown-more f r zero = rw add-zero
-shown-more f r (suc n) =
+pub shown_more : (f : ℕ → ℕ) (r n : ℕ) → shown_from f r (suc n) ≡ shown_from f r n ++ f (r + n) ∷ []
+shown_more f r zero = rw add-zero
+shown_more f r (suc n) =
     let s : suc r + n ≡ r + suc n = omega arith in
-    ap (λ (l : List ℕ). f r ∷ l) (shown-more f (suc r) n ∙ rw s)
+    ap (λ (l : List ℕ). f r ∷ l) (shown_more f (suc r) n ∙ rw s)
 
 -- registers that show the same, one by one
-shown-same : (f g : ℕ → ℕ) (r o n : ℕ) → ((i : ℕ) → i < n → f (r + i) ≡ g (o + i)) → shownFrom f r n ≡ shownFrom g o n
-shown-same f g r o zero h = refl
-shown-same f g r o (suc n) h =
+shown_same : (f g : ℕ → ℕ) (r o n : ℕ) → ((i : ℕ) → i < n → f (r + i) ≡ g (o + i)) → shown_from f r n ≡ shown_from g o n
+shown_same f g r o zero h = refl
+shown_same f g r o (suc n) h =
     let e : f r ≡ g o = rw (add-zero r, add-zero o) at (h 0 (omega arith)) in
     let next : (i : ℕ) → i < n → f (suc r + i) ≡ g (suc o + i) = λ i k. rw (shift r i, shift o i) (h (suc i) (omega arith)) in
-    ap₂ (λ (x : ℕ) (l : List ℕ). x ∷ l) e (shown-same f g (suc r) (suc o) n next)
+    ap₂ (λ (x : ℕ) (l : List ℕ). x ∷ l) e (shown_same f g (suc r) (suc o) n next)
   where
     shift : (x i : ℕ) → suc x + i ≡ x + suc i
     shift x i = omega arith
 
 -- registers that end before the next hundred have one owner
-pub one-owner : (d : Sonde) (v : Device) (start n : ℕ) → start % 100 + n ≤ 100
-    → shownFrom (registerAt d v) start n ≡ shownFrom (registerOf (start / 100) v (sensorAt d (start / 100))) (start % 100) n
-unfolding registerAt
-one-owner d v start n block =
-    shown-same (registerAt d v) (registerOf (start / 100) v (sensorAt d (start / 100))) start (start % 100) n (λ i h. rw (owner i h, offset i h))
+pub one_owner : (d : Sonde) (v : Device) (start n : ℕ) → start % 100 + n ≤ 100
+    → shown_from (register_at d v) start n ≡ shown_from (register_of (start / 100) v (sensor_at d (start / 100))) (start % 100) n
+unfolding register_at
+one_owner d v start n block =
+    shown_same (register_at d v) (register_of (start / 100) v (sensor_at d (start / 100))) start (start % 100) n (λ i h. rw (owner i h, offset i h))
   where
     owner : (i : ℕ) → i < n → (start + i) / 100 ≡ start / 100
     owner i h = omega arith

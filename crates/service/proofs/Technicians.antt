@@ -5,38 +5,38 @@ use Prim.Native.Nat.{ℕ}
 use native.Mathlib.Omega.{arith}
 use Rattle.journal.specs.Valid.{EqualButTechnicians}
 use Rattle.journal.specs.Replay.{replays}
-use Rattle.journal.proofs.Technicians.{used-same, valid_same, replay-same}
+use Rattle.journal.proofs.Technicians.{used_same, valid_same, replay_same}
 use Rattle.audit.specs.Audit.{replayed}
-use Rattle.state.specs.Sonde.{sensorAt, setupAt, withTechnician, validSonde}
+use Rattle.state.specs.Sonde.{sensor_at, setup_at, with_technician, valid_sonde}
 use Rattle.state.specs.declared.Sonde.{Sonde}
-use Rattle.service.specs.Agrees.{openings, journalAgrees, agrees}
-use Rattle.service.specs.Calls.{powerUpOf, auditOf}
+use Rattle.service.specs.Agrees.{openings, journal_agrees, agrees}
+use Rattle.service.specs.Calls.{power_up_of, audit_of}
 use Rattle.service.specs.Technicians.{TechniciansUnjudged}
 
 module _ (w v : List ℕ) (h : EqualButTechnicians w v) where
-  replays-same : replays v ≡ replays w
+  replays_same : replays v ≡ replays w
   unfolding replays
-  replays-same =
-      rw (replay-same w v h 1 (omega arith), replay-same w v h 2 (omega arith), replay-same w v h 3 (omega arith), replay-same w v h 4 (omega arith))
+  replays_same =
+      rw (replay_same w v h 1 (omega arith), replay_same w v h 2 (omega arith), replay_same w v h 3 (omega arith), replay_same w v h 4 (omega arith))
 
-  power-up-same : (address : ℕ) → powerUpOf address v ≡ powerUpOf address w
-  unfolding powerUpOf replayed
-  power-up-same address = rw (valid_same w v h, replays-same)
+  power_up_same : (address : ℕ) → power_up_of address v ≡ power_up_of address w
+  unfolding power_up_of replayed
+  power_up_same address = rw (valid_same w v h, replays_same)
 
-  agrees-same : (d : Sonde) (n : ℕ) → agrees (withTechnician d n) v ≡ agrees d w
-  unfolding agrees journalAgrees openings validSonde setupAt sensorAt withTechnician
-  agrees-same d n = rw (valid_same w v h, replays-same)
+  agrees_same : (d : Sonde) (n : ℕ) → agrees (with_technician d n) v ≡ agrees d w
+  unfolding agrees journal_agrees openings valid_sonde setup_at sensor_at with_technician
+  agrees_same d n = rw (valid_same w v h, replays_same)
 
-  audit-same : (d : Sonde) (n : ℕ) → auditOf (withTechnician d n) v ≡ auditOf d w
-  unfolding auditOf
-  audit-same d n = rw (agrees-same d n, used-same w v h)
+  audit_same : (d : Sonde) (n : ℕ) → audit_of (with_technician d n) v ≡ audit_of d w
+  unfolding audit_of
+  audit_same d n = rw (agrees_same d n, used_same w v h)
 
-pub technicians-unjudged : TechniciansUnjudged
-technicians-unjudged w v h =
+pub technicians_unjudged : TechniciansUnjudged
+technicians_unjudged w v h =
     record {
       validity = valid_same w v h;
-      replay = replay-same w v h;
-      power-up = power-up-same w v h;
-      agreement = agrees-same w v h;
-      audit = audit-same w v h;
+      replay = replay_same w v h;
+      power_up = power_up_same w v h;
+      agreement = agrees_same w v h;
+      audit = audit_same w v h;
     }

@@ -2,51 +2,51 @@
 -- bad; another's; a read at address 0; codes 1, 3, 2, 0x80 and 0xC2, which the plan has; then the field's write. Document 02, wish 1: a frame has
 -- one of two framings, and what it carries is all that is judged. Assumes nothing.
 use Rattle.std.specs.Prelude.{Bool, ◌&&◌, not, cond, List, [], ℕ, eqb, ltb, length}
-use Rattle.words.specs.Mask.{maskedOf}
+use Rattle.words.specs.Mask.{masked_of}
 use Rattle.words.specs.Overlay.{overlay}
-use Rattle.framing.specs.Framing.{Carried, carriedIn, body_of, roomIn}
+use Rattle.framing.specs.Framing.{Carried, carried_in, body_of, room_in}
 use Rattle.framing.specs.Framing.Carried.{Bad as BadFrame, Body}
-use Rattle.modbus.specs.Request.{headerOf}
+use Rattle.modbus.specs.Request.{header_of}
 use Rattle.modbus.specs.declared.Header.{Header}
 use Rattle.modbus.specs.declared.Value.{Value}
 use Rattle.modbus.specs.declared.Value.TheVariants.{Words, Mask}
-use Rattle.replies.specs.Reply.{writtenBody, exceptionBody, replyOf}
+use Rattle.replies.specs.Reply.{written_body, exception_body, reply_of}
 use Rattle.entries.specs.declared.Entry.{Entry}
 use Rattle.fields.specs.declared.Field.{Field}
-use Rattle.journal.specs.Stores.{appendsOf}
+use Rattle.journal.specs.Stores.{appends_of}
 use Rattle.sensors.specs.declared.Sensor.{Sensor}
-use Rattle.registers.specs.Registers.{sensorRegister, registerOf}
+use Rattle.registers.specs.Registers.{sensor_register, register_of}
 use Rattle.registers.specs.declared.Device.{Device}
-use Rattle.commands.specs.Commands.{context_of, code_of, setupAfter, technicianAfter, entriesOf}
+use Rattle.commands.specs.Commands.{context_of, code_of, setup_after, technician_after, entries_of}
 use Rattle.commands.specs.declared.Written.{Written}
-use Rattle.writes.specs.Writes.{writeTo}
+use Rattle.writes.specs.Writes.{write_to}
 use Rattle.plans.specs.Plans.{plan_of}
 use Rattle.plans.specs.declared.Plan.{Plan}
 use Rattle.plans.specs.declared.Plan.TheVariants.{Bad, Foreign, BroadcastRead, Refused, Reading, Writing}
-use Rattle.state.specs.Sonde.{sensorAt, setupAt, withSetup, withTechnician, countedBy}
+use Rattle.state.specs.Sonde.{sensor_at, setup_at, with_setup, with_technician, counted_by}
 use Rattle.state.specs.declared.Event.{Event}
 use Rattle.state.specs.declared.Event.TheVariants.{Uncounted, Bad as CountedBad, Good, Exception}
 use Rattle.state.specs.declared.Sonde.{Sonde}
 use Rattle.service.specs.Agrees.{agrees}
-use Rattle.service.specs.Reads.{deviceIn, readingBody}
+use Rattle.service.specs.Reads.{device_in, reading_body}
 use Rattle.service.specs.declared.Arrival.{Arrival}
 use Rattle.service.specs.declared.SondeFrame.{SondeFrame}
 
 -- ---- what a frame asks for
 
 -- a bad frame "counts bad"; of any other its body is judged, in whichever framing it came
-abbrev pub planFor : ℕ → Carried → Plan
-planFor own BadFrame = Bad
-planFor own (Body body) = plan_of own (headerOf body) body
+abbrev pub plan_for : ℕ → Carried → Plan
+plan_for own BadFrame = Bad
+plan_for own (Body body) = plan_of own (header_of body) body
 
 -- the words that a write gives its field: "mask: (old and A) or (B and not A), then as 6"; old is what a read shows
 abbrev pub first_word : ℕ → Value → ℕ
 first_word old (Words word1 word2) = word1
-first_word old (Mask andMask orMask) = maskedOf old andMask orMask
+first_word old (Mask and_mask or_mask) = masked_of old and_mask or_mask
 
-abbrev pub secondWord : Value → ℕ
-secondWord (Words word1 word2) = word2
-secondWord (Mask andMask orMask) = 0
+abbrev pub second_word : Value → ℕ
+second_word (Words word1 word2) = word2
+second_word (Mask and_mask or_mask) = 0
 
 -- ---- what a frame is answered with
 
@@ -65,37 +65,37 @@ unfoldable pub sent : Header → List ℕ → List ℕ
 sent h body = cond (eqb h.address 0) [] body
 
 -- the reply to what is refused by a code, if one is sent
-abbrev pub refusalBody : Header → ℕ → List ℕ
-refusalBody h code = sent h (exceptionBody h.address h.function code)
+abbrev pub refusal_body : Header → ℕ → List ℕ
+refusal_body h code = sent h (exception_body h.address h.function code)
 
 -- the answer to a write by its code, 0 for none: "Others count good, and a refused one also as exception"
-abbrev pub eventOf : ℕ → Event
-eventOf code = cond (eqb code 0) Good Exception
+abbrev pub event_of : ℕ → Event
+event_of code = cond (eqb code 0) Good Exception
 
-unfoldable pub writeBody : Header → List ℕ → ℕ → List ℕ
-writeBody h body code = cond (eqb code 0) (sent h (writtenBody h.function body)) (refusalBody h code)
+unfoldable pub write_body : Header → List ℕ → ℕ → List ℕ
+write_body h body code = cond (eqb code 0) (sent h (written_body h.function body)) (refusal_body h code)
 
 -- ---- writes
 
 -- the field's own write, by its owner's values: the device's, e, or a sensor's, x
 unfoldable pub written_by : ℕ → Device → Sensor → Field → Value → Written
-written_by o e x f v = writeTo o x.setup f (first_word (registerOf o e x f.offset) v) (secondWord v) (context_of e)
+written_by o e x f v = write_to o x.setup f (first_word (register_of o e x f.offset) v) (second_word v) (context_of e)
 
-abbrev pub writeAt : Sonde → List ℕ → Arrival → ℕ → Field → Value → Written
-writeAt d w a o f v = written_by o (deviceIn d w a) (sensorAt d o) f v
+abbrev pub write_at : Sonde → List ℕ → Arrival → ℕ → Field → Value → Written
+write_at d w a o f v = written_by o (device_in d w a) (sensor_at d o) f v
 
 -- "writes 0xE001 to a command register" ("5 command") of a sensor, by functions 6 and 16 or by a mask
-unfoldable pub isUpdate : ℕ → Sensor → Field → Value → Bool
-isUpdate o x f v = not (eqb o 0) && (eqb f.offset 5 && eqb (first_word (sensorRegister o x f.offset) v) 0xE001)
+unfoldable pub is_update : ℕ → Sensor → Field → Value → Bool
+is_update o x f v = not (eqb o 0) && (eqb f.offset 5 && eqb (first_word (sensor_register o x f.offset) v) 0xE001)
 
--- what is stored is the owner's, the sensor's setup or the technician's number; what a refusal leaves too (`setupAfter`). A write of the device, owner
--- 0, leaves all setups: `setupAt` and `withSetup` take 0 for the first sensor, which is put back as it was
-unfoldable pub sondeAfter : Sonde → ℕ → Written → Sonde
-sondeAfter d o x = withTechnician (withSetup d o (setupAfter (setupAt d o) x)) (technicianAfter d.technician x)
+-- what is stored is the owner's, the sensor's setup or the technician's number; what a refusal leaves too (`setup_after`). A write of the device, owner
+-- 0, leaves all setups: `setup_at` and `with_setup` take 0 for the first sensor, which is put back as it was
+unfoldable pub sonde_after : Sonde → ℕ → Written → Sonde
+sonde_after d o x = with_technician (with_setup d o (setup_after (setup_at d o) x)) (technician_after d.technician x)
 
 -- an update also appends its entry, by all of its 27 stores
-unfoldable pub carriedOut : Sonde → Header → List ℕ → List ℕ → ℕ → Written → Answer
-carriedOut d h body w o x = answer (eventOf (code_of x)) (writeBody h body (code_of x)) (sondeAfter d o x) (appendsOf 27 w (entriesOf x))
+unfoldable pub carried_out : Sonde → Header → List ℕ → List ℕ → ℕ → Written → Answer
+carried_out d h body w o x = answer (event_of (code_of x)) (write_body h body (code_of x)) (sonde_after d o x) (appends_of 27 w (entries_of x))
 
 -- ---- the frame
 
@@ -104,34 +104,34 @@ abbrev pub planned : Sonde → Header → List ℕ → List ℕ → Arrival → 
 planned d h body w a Bad = answer CountedBad [] d w
 planned d h body w a Foreign = answer Uncounted [] d w
 planned d h body w a BroadcastRead = answer Good [] d w
-planned d h body w a (Refused code) = answer Exception (refusalBody h code) d w
-planned d h body w a (Reading start count) = answer Good (readingBody d w a start count) d w
-planned d h body w a (Writing o f v) = carriedOut d h body w o (writeAt d w a o f v)
+planned d h body w a (Refused code) = answer Exception (refusal_body h code) d w
+planned d h body w a (Reading start count) = answer Good (reading_body d w a start count) d w
+planned d h body w a (Writing o f v) = carried_out d h body w o (write_at d w a o f v)
 
 -- the code that refuses what a frame asks; 0 for none
-abbrev pub codeBy : Sonde → List ℕ → Arrival → Plan → ℕ
-codeBy d w a Bad = 0
-codeBy d w a Foreign = 0
-codeBy d w a BroadcastRead = 0
-codeBy d w a (Refused code) = code
-codeBy d w a (Reading start count) = 0
-codeBy d w a (Writing o f v) = code_of (writeAt d w a o f v)
+abbrev pub code_by : Sonde → List ℕ → Arrival → Plan → ℕ
+code_by d w a Bad = 0
+code_by d w a Foreign = 0
+code_by d w a BroadcastRead = 0
+code_by d w a (Refused code) = code
+code_by d w a (Reading start count) = 0
+code_by d w a (Writing o f v) = code_of (write_at d w a o f v)
 
 -- the entries that what a frame asks for appends: one by an update that is accepted, else none
-abbrev pub entriesBy : Sonde → List ℕ → Arrival → Plan → List Entry
-entriesBy d w a Bad = []
-entriesBy d w a Foreign = []
-entriesBy d w a BroadcastRead = []
-entriesBy d w a (Refused code) = []
-entriesBy d w a (Reading start count) = []
-entriesBy d w a (Writing o f v) = entriesOf (writeAt d w a o f v)
+abbrev pub entries_by : Sonde → List ℕ → Arrival → Plan → List Entry
+entries_by d w a Bad = []
+entries_by d w a Foreign = []
+entries_by d w a BroadcastRead = []
+entries_by d w a (Refused code) = []
+entries_by d w a (Reading start count) = []
+entries_by d w a (Writing o f v) = entries_of (write_at d w a o f v)
 
 -- by what a frame carries
 unfoldable pub answer_of : Sonde → Carried → List ℕ → Arrival → Answer
-answer_of d c w a = planned d (headerOf (body_of c)) (body_of c) w a (planFor d.address c)
+answer_of d c w a = planned d (header_of (body_of c)) (body_of c) w a (plan_for d.address c)
 
-abbrev pub answerTo : Sonde → List ℕ → List ℕ → Arrival → Answer
-answerTo d frame w a = answer_of d (carriedIn a.ascii frame) w a
+abbrev pub answer_to : Sonde → List ℕ → List ℕ → Arrival → Answer
+answer_to d frame w a = answer_of d (carried_in a.ascii frame) w a
 
 -- ---- what is left after the call
 
@@ -147,8 +147,8 @@ abbrev pub outcome : SondeFrame → List ℕ → List ℕ → Outcome
 outcome r reply volume = record { number = r.number; size = r.length; sonde = r.sonde; reply = reply; volume = volume }
 
 -- demand 1: "A number changes nothing"; length 0
-abbrev pub refusedBy : ℕ → Sonde → SondeFrame
-refusedBy number d = record { number = number; length = 0; sonde = d }
+abbrev pub refused_by : ℕ → Sonde → SondeFrame
+refused_by number d = record { number = number; length = 0; sonde = d }
 
 -- "a frame refused by code also gives 0, and each frame gives its reply's length, 0 for none"; "Reply bytes past the reply's length stay"; "The
 -- reply goes out in the same framing"
@@ -156,9 +156,9 @@ unfoldable pub left : Answer → Bool → List ℕ → Outcome
 left x ascii reply =
     record {
       number = 0;
-      size = length (replyOf ascii x.body);
-      sonde = countedBy x.event x.sonde;
-      reply = overlay (replyOf ascii x.body) reply;
+      size = length (reply_of ascii x.body);
+      sonde = counted_by x.event x.sonde;
+      reply = overlay (reply_of ascii x.body) reply;
       volume = x.volume;
     }
 
@@ -168,8 +168,8 @@ arrival clock ascii = record { clock = clock; ascii = ascii }
 -- number 3, by the room that the framing's replies need, before any look at the frame; then number 4
 unfoldable pub frame_of : Sonde → List ℕ → List ℕ → List ℕ → Arrival → Outcome
 frame_of d frame reply w a =
-    cond (ltb (length reply) (roomIn a.ascii)) (outcome (refusedBy 3 d) reply w)
-    (cond (agrees d w) (left (answerTo d frame w a) a.ascii reply) (outcome (refusedBy 4 d) reply w))
+    cond (ltb (length reply) (room_in a.ascii)) (outcome (refused_by 3 d) reply w)
+    (cond (agrees d w) (left (answer_to d frame w a) a.ascii reply) (outcome (refused_by 4 d) reply w))
 
 -- ---- a cut
 
@@ -177,4 +177,4 @@ frame_of d frame reply w a =
 -- nothing leaves the volume, and so does one that a number refuses
 unfoldable pub cut_of : Sonde → List ℕ → List ℕ → List ℕ → Arrival → ℕ → List ℕ
 cut_of d frame reply w a n =
-    cond (eqb (frame_of d frame reply w a).number 0) (appendsOf n w (entriesBy d w a (planFor d.address (carriedIn a.ascii frame)))) w
+    cond (eqb (frame_of d frame reply w a).number 0) (appends_of n w (entries_by d w a (plan_for d.address (carried_in a.ascii frame)))) w

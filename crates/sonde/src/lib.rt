@@ -1,11 +1,11 @@
 // The calls for programs in C, as include/sonde.h declares them. A slice is a pointer and a length there. The frame call is put together
 // here: a function in between that takes a sonde and hands it back would cost a copy of it.
 ghost use Rattle.std.specs.Prelude.{◌≡◌};
-ghost use Rattle.journal.specs.Stores.{appendUpTo};
-ghost use Rattle.page.specs.Print.{printed, printOf};
-ghost use Rattle.recovery.specs.Salvage.{salvaged, salvageOf};
-ghost use Rattle.rtu.specs.Rounds.{crcWord};
-ghost use Rattle.service.specs.Calls.{begun, fresh_of, beginOf, powerUpOf, measureOf, auditOf};
+ghost use Rattle.journal.specs.Stores.{append_up_to};
+ghost use Rattle.page.specs.Print.{printed, print_of};
+ghost use Rattle.recovery.specs.Salvage.{salvaged, salvage_of};
+ghost use Rattle.rtu.specs.Rounds.{crc_word};
+ghost use Rattle.service.specs.Calls.{begun, fresh_of, begin_of, power_up_of, measure_of, audit_of};
 ghost use Rattle.service.specs.Frame.{arrival, outcome, frame_of};
 ghost use Rattle.service.specs.Framings.{AnswersBytes};
 
@@ -26,14 +26,14 @@ pub extern "C" fn sonde_fresh(address: u8) -> SondeMade
 
 #[unsafe(no_mangle)]
 pub extern "C" fn sonde_begin(sonde: Sonde, volume: &mut [u16]) -> SondeMade
-    ensures { begun result volume.new ≡ beginOf sonde volume.old }
+    ensures { begun result volume.new ≡ begin_of sonde volume.old }
 {
     calls::begin(sonde, volume)
 }
 
 #[unsafe(no_mangle)]
 pub extern "C" fn sonde_power_up(address: u8, volume: &[u16]) -> SondeMade
-    ensures { result ≡ powerUpOf address volume.now }
+    ensures { result ≡ power_up_of address volume.now }
 {
     calls::power_up(address, volume)
 }
@@ -46,7 +46,7 @@ pub extern "C" fn sonde_measure(
     raw1: f32,
     raw2: f32,
 ) -> SondeMade
-    ensures { result ≡ measureOf sonde sensor present raw1 raw2 }
+    ensures { result ≡ measure_of sonde sensor present raw1 raw2 }
 {
     calls::measure(sonde, sensor, present, raw1, raw2)
 }
@@ -117,35 +117,35 @@ pub extern "C" fn sonde_frame(
 
 #[unsafe(no_mangle)]
 pub extern "C" fn sonde_audit(sonde: Sonde, volume: &[u16]) -> SondeAudit
-    ensures { result ≡ auditOf sonde volume.now }
+    ensures { result ≡ audit_of sonde volume.now }
 {
     calls::audit(sonde, volume)
 }
 
 #[unsafe(no_mangle)]
 pub extern "C" fn sonde_print(volume: &[u16], page: &mut [u8]) -> SondePrint
-    ensures { printed result page.new ≡ printOf volume.now page.old }
+    ensures { printed result page.new ≡ print_of volume.now page.old }
 {
     printing::print(volume, page)
 }
 
 #[unsafe(no_mangle)]
 pub extern "C" fn sonde_append(volume: &mut [u16], entry: Entry, stores: usize)
-    ensures { volume.new ≡ appendUpTo stores volume.old entry }
+    ensures { volume.new ≡ append_up_to stores volume.old entry }
 {
     recording::append(volume, entry, stores);
 }
 
 #[unsafe(no_mangle)]
 pub extern "C" fn sonde_salvage(volume: &mut [u16]) -> SondeSalvage
-    ensures { salvaged result volume.new ≡ salvageOf volume.old }
+    ensures { salvaged result volume.new ≡ salvage_of volume.old }
 {
     salvage::salvage(volume)
 }
 
 #[unsafe(no_mangle)]
 pub extern "C" fn sonde_crc_round(sum: u16, word: u16) -> u16
-    ensures { result ≡ crcWord sum word }
+    ensures { result ≡ crc_word sum word }
 {
     rtu::crc::round(sum, word)
 }

@@ -2,8 +2,8 @@
 -- "Frames" (the counters). Assumes nothing.
 use Rattle.std.specs.Prelude.{Bool, false, ◌&&◌, cond, List, [], ◌∷◌, ℕ, suc, ◌-◌, leb, ltb, Float, get_or, set}
 use Rattle.std.specs.Float.{nan}
-use Rattle.sensors.specs.Sensors.{freshSensor, freshSample, poweredSetup, validSensor}
-use Rattle.sensors.specs.Changes.{measuredSensor, sensorWithSetup}
+use Rattle.sensors.specs.Sensors.{fresh_sensor, fresh_sample, powered_setup, valid_sensor}
+use Rattle.sensors.specs.Changes.{measured_sensor, sensor_with_setup}
 use Rattle.sensors.specs.declared.Setup.{Setup}
 use Rattle.sensors.specs.declared.Sensor.{Sensor}
 use Rattle.coefficients.specs.declared.Calibration.{Calibration}
@@ -22,8 +22,8 @@ counters good bad exceptions = record { good = good; bad = bad; exceptions = exc
 unfoldable pub incremented : ℕ → ℕ
 incremented n = cond (ltb n 65535) (suc n) 65535
 
-unfoldable pub freshCounters : Counters
-freshCounters = counters 0 0 0
+unfoldable pub fresh_counters : Counters
+fresh_counters = counters 0 0 0
 
 -- "counts bad"; "another's address counts nothing"; "Others count good, and a refused one also as exception"
 abbrev pub counted : Event → Counters → Counters
@@ -39,23 +39,23 @@ sonde address technician sensors c = record { address = address; technician = te
 
 -- "Fresh: modes off, figures, units and sentinels at their defaults, .. times and counters 0, never measured"; document 02, wish 3: the technician's
 -- number, "where 0 means not given"
-unfoldable pub freshSonde : ℕ → Sonde
-freshSonde address = sonde address 0 (freshSensor 1 ∷ freshSensor 2 ∷ freshSensor 3 ∷ freshSensor 4 ∷ []) freshCounters
+unfoldable pub fresh_sonde : ℕ → Sonde
+fresh_sonde address = sonde address 0 (fresh_sensor 1 ∷ fresh_sensor 2 ∷ fresh_sensor 3 ∷ fresh_sensor 4 ∷ []) fresh_counters
 
 -- "Power-up gives replayed figures and times, all else as fresh"
-unfoldable pub poweredSensor : ℕ → Calibration → Sensor
-poweredSensor s c = record { setup = poweredSetup s c; sample = freshSample }
+unfoldable pub powered_sensor : ℕ → Calibration → Sensor
+powered_sensor s c = record { setup = powered_setup s c; sample = fresh_sample }
 
 -- document 02, wish 3: "A power-up sets the register to 0"
-unfoldable pub poweredSonde : ℕ → Calibrations → Sonde
-poweredSonde address c =
+unfoldable pub powered_sonde : ℕ → Calibrations → Sonde
+powered_sonde address c =
     sonde address 0
-    (poweredSensor 1 c.sensor1 ∷ poweredSensor 2 c.sensor2 ∷ poweredSensor 3 c.sensor3 ∷ poweredSensor 4 c.sensor4 ∷ [])
-    freshCounters
+    (powered_sensor 1 c.sensor1 ∷ powered_sensor 2 c.sensor2 ∷ powered_sensor 3 c.sensor3 ∷ powered_sensor 4 c.sensor4 ∷ [])
+    fresh_counters
 
 -- what the list holds past its end: never read, since a sonde has four sensors
-abbrev pub noSensor : Sensor
-noSensor =
+abbrev pub no_sensor : Sensor
+no_sensor =
     record {
       setup = record {
         procedure = record {
@@ -76,39 +76,39 @@ noSensor =
     }
 
 -- sensor 1, 2, 3 or 4
-unfoldable pub sensorAt : Sonde → ℕ → Sensor
-sensorAt d s = get_or d.sensors (s - 1) noSensor
+unfoldable pub sensor_at : Sonde → ℕ → Sensor
+sensor_at d s = get_or d.sensors (s - 1) no_sensor
 
-unfoldable pub setupAt : Sonde → ℕ → Setup
-setupAt d s = (sensorAt d s).setup
+unfoldable pub setup_at : Sonde → ℕ → Setup
+setup_at d s = (sensor_at d s).setup
 
-unfoldable pub withSensor : Sonde → ℕ → Sensor → Sonde
-withSensor d s x = sonde d.address d.technician (set d.sensors (s - 1) x) d.counters
+unfoldable pub with_sensor : Sonde → ℕ → Sensor → Sonde
+with_sensor d s x = sonde d.address d.technician (set d.sensors (s - 1) x) d.counters
 
-unfoldable pub withSetup : Sonde → ℕ → Setup → Sonde
-withSetup d s x = withSensor d s (sensorWithSetup (sensorAt d s) x)
+unfoldable pub with_setup : Sonde → ℕ → Setup → Sonde
+with_setup d s x = with_sensor d s (sensor_with_setup (sensor_at d s) x)
 
-unfoldable pub withTechnician : Sonde → ℕ → Sonde
-withTechnician d n = sonde d.address n d.sensors d.counters
+unfoldable pub with_technician : Sonde → ℕ → Sonde
+with_technician d n = sonde d.address n d.sensors d.counters
 
 -- "Measure stores the raws that it reads"
-unfoldable pub measuredAt : Sonde → ℕ → Bool → Float → Float → Sonde
-measuredAt d s present raw1 raw2 = withSensor d s (measuredSensor (sensorAt d s) s present raw1 raw2)
+unfoldable pub measured_at : Sonde → ℕ → Bool → Float → Float → Sonde
+measured_at d s present raw1 raw2 = with_sensor d s (measured_sensor (sensor_at d s) s present raw1 raw2)
 
-unfoldable pub countedBy : Event → Sonde → Sonde
-countedBy e d = sonde d.address d.technician d.sensors (counted e d.counters)
+unfoldable pub counted_by : Event → Sonde → Sonde
+counted_by e d = sonde d.address d.technician d.sensors (counted e d.counters)
 
 -- ---- valid; document 01's term is sound
 
 -- "its address is 1..247"
-unfoldable pub addressValid : ℕ → Bool
-addressValid address = leb 1 address && leb address 247
+unfoldable pub address_valid : ℕ → Bool
+address_valid address = leb 1 address && leb address 247
 
 -- "its floats are finite, every unit, method .. and level id is in the map, and figures in force are in limits": of each sensor
-unfoldable pub validSonde : Sonde → Bool
-validSonde d =
-    addressValid d.address
-    && validSensor 1 (sensorAt d 1)
-    && validSensor 2 (sensorAt d 2)
-    && validSensor 3 (sensorAt d 3)
-    && validSensor 4 (sensorAt d 4)
+unfoldable pub valid_sonde : Sonde → Bool
+valid_sonde d =
+    address_valid d.address
+    && valid_sensor 1 (sensor_at d 1)
+    && valid_sensor 2 (sensor_at d 2)
+    && valid_sensor 3 (sensor_at d 3)
+    && valid_sensor 4 (sensor_at d 4)

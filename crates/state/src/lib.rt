@@ -1,7 +1,7 @@
 // The state of a sonde: an address, the technician's number, four sensors and the message counters. It goes in and comes back by value.
 ghost use Rattle.std.specs.Prelude.{◌≡◌};
 ghost use Rattle.journal.specs.Journal.{IsSensor};
-ghost use Rattle.state.specs.Sonde.{incremented, freshCounters, counted, freshSonde, poweredSensor, poweredSonde, addressValid, validSonde, measuredAt};
+ghost use Rattle.state.specs.Sonde.{incremented, fresh_counters, counted, fresh_sonde, powered_sensor, powered_sonde, address_valid, valid_sonde, measured_at};
 
 use coefficients::Calibration;
 use journal::Calibrations;
@@ -47,7 +47,7 @@ pub enum Event {
 
 impl Counters {
     pub fn fresh() -> Self
-        ensures { result ≡ freshCounters }
+        ensures { result ≡ fresh_counters }
     {
         Counters {
             good: 0,
@@ -84,14 +84,14 @@ impl Counters {
 
 // Whether a sonde can have the address.
 pub fn address_valid(address: u8) -> bool
-    ensures { result ≡ addressValid address }
+    ensures { result ≡ address_valid address }
 {
     (1 <= address) & (address <= 247)
 }
 
 // A sensor as it is after a power-up: fresh, but for the replayed calibration.
 fn powered_sensor(sensor: u16, c: Calibration) -> Sensor
-    ensures { result ≡ poweredSensor sensor c }
+    ensures { result ≡ powered_sensor sensor c }
 {
     Sensor {
         setup: Setup::powered(sensor, c),
@@ -101,7 +101,7 @@ fn powered_sensor(sensor: u16, c: Calibration) -> Sensor
 
 impl Sonde {
     pub fn fresh(address: u8) -> Self
-        ensures { result ≡ freshSonde address }
+        ensures { result ≡ fresh_sonde address }
     {
         Sonde {
             address,
@@ -118,7 +118,7 @@ impl Sonde {
 
     // A sonde after a power-up, with the calibrations that replay gives.
     pub fn powered(address: u8, c: Calibrations) -> Self
-        ensures { result ≡ poweredSonde address c }
+        ensures { result ≡ powered_sonde address c }
     {
         Sonde {
             address,
@@ -135,7 +135,7 @@ impl Sonde {
 
     // Document 01: sound.
     pub fn is_valid(self) -> bool
-        ensures { result ≡ validSonde self }
+        ensures { result ≡ valid_sonde self }
     {
         let a = self.sensors[0];
         let b = self.sensors[1];
@@ -147,7 +147,7 @@ impl Sonde {
     // A measurement of a sensor.
     pub fn measure(mut self, sensor: u16, present: bool, raw1: f32, raw2: f32) -> Self
         requires { IsSensor sensor }
-        ensures { result ≡ measuredAt self sensor present raw1 raw2 }
+        ensures { result ≡ measured_at self sensor present raw1 raw2 }
     {
         let i = (sensor as usize) - 1;
         let before = self.sensors[i];

@@ -9,39 +9,39 @@ use borrow.Author.Tests.{lt-ltb, le-ltb}
 use lib.Dec.{ltb}
 use lib.ListN.{length, take, drop, set}
 use lib.Seq.{take-suc-set, append_snoc, drop-set-lt, drop-drop}
-use Rattle.text.specs.Text.{characterAt}
-use Rattle.text.specs.Hex.{isBetween, digitOf, pair_of, pastSpace, byte_at, decodedFrom}
+use Rattle.text.specs.Text.{character_at}
+use Rattle.text.specs.Hex.{is_between, digit_of, pair_of, past_space, byte_at, decoded_from}
 
 -- a character that isn't 0 is one of the line's
-pub there : (line : List ℕ) (at : ℕ) → 0 < characterAt line at → at < length line
-unfolding characterAt
+pub there : (line : List ℕ) (at : ℕ) → 0 < character_at line at → at < length line
+unfolding character_at
 there [] at h = absurd (omega arith)
 there (x ∷ xs) zero h = omega arith
 there (x ∷ xs) (suc at) h = omega (arith, there xs at h)
 
 -- 0 is no digit
 no_digit : (high : ℕ) → pair_of high 0 ≡ 256
-unfolding pair_of digitOf isBetween
-no_digit high = go (ltb 15 (digitOf high))
+unfolding pair_of digit_of is_between
+no_digit high = go (ltb 15 (digit_of high))
   where
     go : (b : Bool) → ◌≡◌ {A = ℕ} (cond b 256 256) 256
     go true = refl
     go false = refl
 
 -- a byte's second digit is one of the line's characters
-pub within-line : (line : List ℕ) (at : ℕ) → byte_at line at ≤ 255 → at + 1 < length line
+pub within_line : (line : List ℕ) (at : ℕ) → byte_at line at ≤ 255 → at + 1 < length line
 unfolding byte_at
-within-line line at h = go (characterAt line (at + 1)) refl h
+within_line line at h = go (character_at line (at + 1)) refl h
   where
-    go : (x : ℕ) → characterAt line (at + 1) ≡ x → pair_of (characterAt line at) x ≤ 255 → at + 1 < length line
-    go zero e k = absurd (omega (arith, no_digit (characterAt line at)))
+    go : (x : ℕ) → character_at line (at + 1) ≡ x → pair_of (character_at line at) x ≤ 255 → at + 1 < length line
+    go zero e k = absurd (omega (arith, no_digit (character_at line at)))
     go (suc x) e k = there line (at + 1) (omega arith)
 
 -- the byte as it is worked out: past a space, from two characters
-pub byte-is : (line : List ℕ) (at from x y byte : ℕ) → from ≡ pastSpace line at → x ≡ characterAt line from → y ≡ characterAt line (from + 1) → byte ≡ pair_of x y
-    → byte ≡ byte_at line (pastSpace line at)
+pub byte_is : (line : List ℕ) (at from x y byte : ℕ) → from ≡ past_space line at → x ≡ character_at line from → y ≡ character_at line (from + 1) → byte ≡ pair_of x y
+    → byte ≡ byte_at line (past_space line at)
 unfolding byte_at
-byte-is line at from x y byte p q r e = e ∙ ap₂ pair_of q r ∙ ap (byte_at line) p
+byte_is line at from x y byte p q r e = e ∙ ap₂ pair_of q r ∙ ap (byte_at line) p
 
 -- with room for one byte more
 module _ (line : List ℕ) (at n most : ℕ) (h : n < most) where
@@ -49,22 +49,22 @@ module _ (line : List ℕ) (at n most : ℕ) (h : n < most) where
   room = omega arith
 
   -- no byte: the bytes end
-  pub ended : 255 < byte_at line (pastSpace line at) → decodedFrom line at (most - n) ≡ []
-  unfolding decodedFrom
+  pub ended : 255 < byte_at line (past_space line at) → decoded_from line at (most - n) ≡ []
+  unfolding decoded_from
   ended e = rw (room, lt-ltb _ _ e)
 
   -- a byte, and those behind it
-  went_on : byte_at line (pastSpace line at) ≤ 255
-      → decodedFrom line at (most - n) ≡ byte_at line (pastSpace line at) ∷ decodedFrom line (pastSpace line at + 2) (most - (n + 1))
-  unfolding decodedFrom
+  went_on : byte_at line (past_space line at) ≤ 255
+      → decoded_from line at (most - n) ≡ byte_at line (past_space line at) ∷ decoded_from line (past_space line at + 2) (most - (n + 1))
+  unfolding decoded_from
   went_on e = rw (room, le-ltb _ _ e)
 
   -- stored behind those before it
-  pub stored : (out : List ℕ) → n < length out → byte_at line (pastSpace line at) ≤ 255
-      → take (n + 1) (set out n (byte_at line (pastSpace line at))) ++ decodedFrom line (pastSpace line at + 2) (most - (n + 1))
-      ≡ take n out ++ decodedFrom line at (most - n)
-  stored out k e = rw (went_on e, add-one n, take-suc-set out n (byte_at line (pastSpace line at)) k, append_snoc)
+  pub stored : (out : List ℕ) → n < length out → byte_at line (past_space line at) ≤ 255
+      → take (n + 1) (set out n (byte_at line (past_space line at))) ++ decoded_from line (past_space line at + 2) (most - (n + 1))
+      ≡ take n out ++ decoded_from line at (most - n)
+  stored out k e = rw (went_on e, add-one n, take-suc-set out n (byte_at line (past_space line at)) k, append_snoc)
 
 -- what stands behind a store stays
-pub rest-kept : (out old : List ℕ) (n v : ℕ) → drop n out ≡ drop n old → drop (n + 1) (set out n v) ≡ drop (n + 1) old
-rest-kept out old n v e = drop-set-lt (n + 1) out n v (omega arith) ∙ sym (drop-drop 1 n out) ∙ ap (drop 1) e ∙ drop-drop 1 n old
+pub rest_kept : (out old : List ℕ) (n v : ℕ) → drop n out ≡ drop n old → drop (n + 1) (set out n v) ≡ drop (n + 1) old
+rest_kept out old n v e = drop-set-lt (n + 1) out n v (omega arith) ∙ sym (drop-drop 1 n out) ∙ ap (drop 1) e ∙ drop-drop 1 n old

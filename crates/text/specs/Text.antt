@@ -3,8 +3,8 @@
 use Rattle.std.specs.Prelude.{Bool, cond, ◌&&◌, ◌||◌, List, [], ◌∷◌, ℕ, suc, ◌+◌, eqb, get_or, drop}
 
 -- the character at a place, 0 past the end
-unfoldable pub characterAt : List ℕ → ℕ → ℕ
-characterAt line at = get_or line at 0
+unfoldable pub character_at : List ℕ → ℕ → ℕ
+character_at line at = get_or line at 0
 
 -- how many characters stand before the first c, or before the end
 unfoldable pub before : ℕ → List ℕ → ℕ
@@ -12,18 +12,18 @@ before c [] = 0
 before c (x ∷ xs) = cond (eqb x c) 0 (suc (before c xs))
 
 -- where c first stands from a place on, or the end
-unfoldable pub findOf : List ℕ → ℕ → ℕ → ℕ
-findOf text at c = at + before c (drop at text)
+unfoldable pub find_of : List ℕ → ℕ → ℕ → ℕ
+find_of text at c = at + before c (drop at text)
 
 -- how many characters stand before the first line feed (10) with the mark behind it, or before the end
-unfoldable pub beforeMark : ℕ → List ℕ → ℕ
-beforeMark mark [] = 0
-beforeMark mark (x ∷ xs) = cond (eqb x 10 && eqb (get_or xs 0 0) mark) 0 (suc (beforeMark mark xs))
+unfoldable pub before_mark : ℕ → List ℕ → ℕ
+before_mark mark [] = 0
+before_mark mark (x ∷ xs) = cond (eqb x 10 && eqb (get_or xs 0 0) mark) 0 (suc (before_mark mark xs))
 
 -- where the part that a place is in ends
-unfoldable pub partEndOf : List ℕ → ℕ → ℕ → ℕ
-partEndOf text at mark = at + beforeMark mark (drop at text)
+unfoldable pub part_end_of : List ℕ → ℕ → ℕ → ℕ
+part_end_of text at mark = at + before_mark mark (drop at text)
 
 -- an empty line, or one that begins with # (35)
-unfoldable pub isPassedOver : List ℕ → Bool
-isPassedOver line = eqb (characterAt line 0) 0 || eqb (characterAt line 0) 35
+unfoldable pub is_passed_over : List ℕ → Bool
+is_passed_over line = eqb (character_at line 0) 0 || eqb (character_at line 0) 35

@@ -3,14 +3,14 @@ pub mod tally; // comparisons, counted
 
 ghost use Rattle.std.specs.Prelude.{◌≡◌, ◌+◌, ◌-◌, ◌≤◌, length, take, drop};
 ghost use Rattle.io.specs.Counts.{IsPrefixLen};
-ghost use Rattle.text.specs.Text.{characterAt, findOf, partEndOf, isPassedOver};
-ghost use Rattle.text.specs.Hex.{digitOf, pair_of, pastSpace, decodedOf};
+ghost use Rattle.text.specs.Text.{character_at, find_of, part_end_of, is_passed_over};
+ghost use Rattle.text.specs.Hex.{digit_of, pair_of, past_space, decoded_of};
 
 use libc::STDOUT_FILENO;
 
 // Where a character first stands from a place on, or the end of the text.
 pub fn find(text: &[u8], at: usize, c: u8) -> usize
-    ensures value { result ≡ findOf text.now at c }
+    ensures value { result ≡ find_of text.now at c }
     ensures lower_bound { at ≤ result }
     ensures upper_bound { result ≤ at + (length text.now - at) }
 {
@@ -26,7 +26,7 @@ pub fn find(text: &[u8], at: usize, c: u8) -> usize
 
 // Where the part that a place is in ends: at the line feed before a line that begins with `mark`, or at the end of the text.
 pub fn part_end(text: &[u8], at: usize, mark: u8) -> usize
-    ensures value { result ≡ partEndOf text.now at mark }
+    ensures value { result ≡ part_end_of text.now at mark }
     ensures lower_bound { at ≤ result }
     ensures upper_bound { result ≤ at + (length text.now - at) }
 {
@@ -42,14 +42,14 @@ pub fn part_end(text: &[u8], at: usize, mark: u8) -> usize
 
 // The character at a place of a line, and 0 past its end.
 pub fn character(line: &[u8], at: usize) -> u8
-    ensures { result ≡ characterAt line.now at }
+    ensures { result ≡ character_at line.now at }
 {
     if at < line.len() { line[at] } else { 0 }
 }
 
 // Whether a line has nothing to play or compare: it is empty, or begins with `#`.
 pub fn is_passed_over(line: &[u8]) -> bool
-    ensures { result ≡ isPassedOver line.now }
+    ensures { result ≡ is_passed_over line.now }
 {
     let initial = character(line, 0);
     (initial == 0) | (initial == b'#')
@@ -57,7 +57,7 @@ pub fn is_passed_over(line: &[u8]) -> bool
 
 // The value of a hexadecimal digit, and 16 for any other character.
 fn digit(c: u8) -> u8
-    ensures value { result ≡ digitOf c }
+    ensures value { result ≡ digit_of c }
     ensures upper_bound { result ≤ 16 }
 {
     if (b'0' <= c) & (c <= b'9') {
@@ -90,7 +90,7 @@ fn pair(high: u8, low: u8) -> u16
 
 // A place of a line, or the next where a space stands there.
 fn past_space(line: &[u8], at: usize) -> usize
-    ensures value { result ≡ pastSpace line.now at }
+    ensures value { result ≡ past_space line.now at }
     ensures upper_bound { result ≤ at + 1 }
 {
     if character(line, at) == b' ' {
@@ -103,7 +103,7 @@ fn past_space(line: &[u8], at: usize) -> usize
 // holds, and gives how many they are.
 pub fn decode(line: &[u8], out: &mut [u8]) -> usize
     ensures prefix_len { IsPrefixLen result out.new }
-    ensures out_after { take result out.new ≡ decodedOf line.now (length out.old) }
+    ensures out_after { take result out.new ≡ decoded_of line.now (length out.old) }
     ensures out_unchanged { drop result out.new ≡ drop result out.old }
 {
     let mut n: usize = 0;

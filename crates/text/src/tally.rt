@@ -1,6 +1,6 @@
 // Comparisons, counted.
 ghost use Rattle.std.specs.Prelude.{◌≡◌};
-ghost use Rattle.text.specs.Tally.{oneMore, noneTallied, tallied};
+ghost use Rattle.text.specs.Tally.{one_more, none_tallied, tallied};
 
 use libc::STDOUT_FILENO;
 
@@ -13,7 +13,7 @@ pub struct Tally {
 
 // One more, up to the largest u64.
 fn one_more(n: u64) -> u64
-    ensures { result ≡ oneMore n }
+    ensures { result ≡ one_more n }
 {
     if n < 0xFFFF_FFFF_FFFF_FFFF {
         return n + 1;
@@ -23,7 +23,7 @@ fn one_more(n: u64) -> u64
 
 impl Tally {
     pub fn none() -> Tally
-        ensures { result ≡ noneTallied }
+        ensures { result ≡ none_tallied }
     {
         Tally {
             compared: 0,

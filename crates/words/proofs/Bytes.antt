@@ -8,24 +8,24 @@ use lib.ListN.{length, get_or, take}
 use Rattle.words.specs.Bytes.{Bytes, bytes_of, words_of}
 
 -- the bytes of two lists of words, one behind the other
-pub bytes-append : (xs ys : List ℕ) → bytes_of (xs ++ ys) ≡ bytes_of xs ++ bytes_of ys
+pub bytes_append : (xs ys : List ℕ) → bytes_of (xs ++ ys) ≡ bytes_of xs ++ bytes_of ys
 unfolding bytes_of
-bytes-append [] ys = refl
-bytes-append (x ∷ xs) ys = ap (λ (l : List ℕ). x / 256 ∷ x % 256 ∷ l) (bytes-append xs ys)
+bytes_append [] ys = refl
+bytes_append (x ∷ xs) ys = ap (λ (l : List ℕ). x / 256 ∷ x % 256 ∷ l) (bytes_append xs ys)
 
 -- a word is two bytes
-pub bytes-length : (ws : List ℕ) → length (bytes_of ws) ≡ 2 * length ws
+pub bytes_length : (ws : List ℕ) → length (bytes_of ws) ≡ 2 * length ws
 unfolding bytes_of
-bytes-length [] = refl
-bytes-length (w ∷ ws) = omega (arith, bytes-length ws)
+bytes_length [] = refl
+bytes_length (w ∷ ws) = omega (arith, bytes_length ws)
 
 -- the bytes of words give them again
-pub words-and-back : (ws : List ℕ) → words_of (bytes_of ws) ≡ ws
+pub words_and_back : (ws : List ℕ) → words_of (bytes_of ws) ≡ ws
 unfolding bytes_of words_of
-words-and-back [] = refl
-words-and-back (w ∷ ws) =
+words_and_back [] = refl
+words_and_back (w ∷ ws) =
     let e : w / 256 * 256 + w % 256 ≡ w = omega arith in
-    ap₂ (λ (x : ℕ) (xs : List ℕ). x ∷ xs) e (words-and-back ws)
+    ap₂ (λ (x : ℕ) (xs : List ℕ). x ∷ xs) e (words_and_back ws)
 
 take_below : (n : ℕ) (s : List ℕ) → ((i : ℕ) → get_or s i 0 < 256) → (i : ℕ) → get_or (take n s) i 0 < 256
 take_below zero s h i = lit< tt
@@ -34,5 +34,5 @@ take_below (suc n) (x ∷ s) h zero = h zero
 take_below (suc n) (x ∷ s) h (suc i) = take_below n s (λ j. h (suc j)) i
 
 -- the start of a list of bytes is a list of bytes
-pub take-bytes : (n : ℕ) (s : List ℕ) → Bytes s → Bytes (take n s)
-take-bytes n s bytes = record { below = take_below n s bytes.below }
+pub take_bytes : (n : ℕ) (s : List ℕ) → Bytes s → Bytes (take n s)
+take_bytes n s bytes = record { below = take_below n s bytes.below }

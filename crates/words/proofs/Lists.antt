@@ -7,8 +7,8 @@ use lib.ListN.{length, get_or, take, drop, take-append-drop}
 use lib.Seq.{drop-cons, drop-length}
 
 -- a list without its last two elements, then these
-pub last-two : (s : List ℕ) → 2 ≤ length s → s ≡ take (length s - 2) s ++ (get_or s (length s - 2) 0 ∷ get_or s (length s - 1) 0 ∷ [])
-last-two s h =
+pub last_two : (s : List ℕ) → 2 ≤ length s → s ≡ take (length s - 2) s ++ (get_or s (length s - 2) 0 ∷ get_or s (length s - 1) 0 ∷ [])
+last_two s h =
     let h₀ : length s - 2 < length s = omega arith in
     let h₁ : suc (length s - 2) < length s = omega arith in
     let e₁ : suc (length s - 2) ≡ length s - 1 = omega arith in

@@ -37,9 +37,9 @@ unfolding overlay
 overlay-start buffer b n e = take_at b (drop (length b) buffer) n (sym e)
 
 -- a longer list over a list over a buffer: the longer one over the buffer
-pub overlay-over : (buffer b f : List ℕ) → length b ≤ length f → overlay f (overlay b buffer) ≡ overlay f buffer
+pub overlay_over : (buffer b f : List ℕ) → length b ≤ length f → overlay f (overlay b buffer) ≡ overlay f buffer
 unfolding overlay
-overlay-over buffer b f h =
+overlay_over buffer b f h =
     let n : ℕ = length f - length b in
     let e : length f ≡ length b + n = omega arith in
     ap (λ (l : List ℕ). f ++ l)

@@ -10,8 +10,8 @@ use Rattle.sensors.specs.declared.Setup.{Setup}
 
 -- "3..4 next", "5 command (.. reads 1 with mode on, else 0)", "6 method", "10, 12, 14 figures", of which the trial ones are written,
 -- "16, 18, 20, 22 x1, y1, x2, y2"; "Parameter k begins at 30 + 8 × (k - 1): .. +2 id", which is written of the level, "+3 units", "+5 sentinel"
-unfoldable pub contentOf : Setup → ℕ → ℕ
-contentOf s o =
+unfoldable pub content_of : Setup → ℕ → ℕ
+content_of s o =
     cond (eqb o 3) s.active.next
     (cond (eqb o 5) (cond s.procedure.calibrating 1 0)
     (cond (eqb o 6) s.procedure.method
@@ -31,5 +31,5 @@ contentOf s o =
     (cond (eqb o 51) (to_bits binary32 s.parameters.parameter3.sentinel) 0))))))))))))))))
 
 -- the value that a write gives a field: "A float .. fills two words, high word first", so does a time
-unfoldable pub writtenValue : Field → ℕ → ℕ → ℕ
-writtenValue f high low = cond (eqb f.words 1) high (pattern high low)
+unfoldable pub written_value : Field → ℕ → ℕ → ℕ
+written_value f high low = cond (eqb f.words 1) high (pattern high low)

@@ -11,128 +11,128 @@ use Rattle.floats.specs.Floats.{pattern, float_of}
 use Rattle.floats.specs.declared.FloatOf.{FloatOf}
 use Rattle.floats.specs.declared.FloatOf.TheVariants.{Finite, NotFinite}
 use Rattle.floats.proofs.Bools.{both, choose}
-use Rattle.methods.specs.Methods.{judgedOf}
+use Rattle.methods.specs.Methods.{judged_of}
 use Rattle.coefficients.specs.declared.Coefficients.{Coefficients}
 use Rattle.methods.specs.declared.Verdict.{Verdict}
 use Rattle.methods.specs.declared.Verdict.TheVariants.{Accepted, OutsideLimits, NotFinite as CandidateNotFinite, Undefined}
-use Rattle.entries.specs.Entries.{methodAllowed, entry_of}
-use Rattle.parameters.specs.Parameters.{parameterNumber, parameterPart, id_of, unitsAllowed, levelAllowed}
+use Rattle.entries.specs.Entries.{method_allowed, entry_of}
+use Rattle.parameters.specs.Parameters.{parameter_number, parameter_part, id_of, units_allowed, level_allowed}
 use Rattle.fields.specs.declared.Field.{Field}
-use Rattle.sensors.specs.Sensors.{parameterOf}
-use Rattle.sensors.specs.Changes.{procedure, active, withProcedure, withActive, withParameters, withTrial, withLevel, restarted, calibratedAt, withParameter}
+use Rattle.sensors.specs.Sensors.{parameter_of}
+use Rattle.sensors.specs.Changes.{procedure, active, with_procedure, with_active, with_parameters, with_trial, with_level, restarted, calibrated_at, with_parameter}
 use Rattle.sensors.specs.declared.Setup.{Setup}
-use Rattle.commands.specs.Commands.{methodSet, judgedUpdate, updated, commanded}
-use Rattle.writes.specs.Writes.{nextWritten, methodWritten, withFloat, floatStored, floatWritten, levelWritten, unitsWritten, parameterWritten, fieldWritten, writeOf}
+use Rattle.commands.specs.Commands.{method_set, judged_update, updated, commanded}
+use Rattle.writes.specs.Writes.{next_written, method_written, with_float, float_stored, float_written, level_written, units_written, parameter_written, field_written, write_of}
 use Rattle.commands.specs.declared.Context.{Context}
 use Rattle.commands.specs.declared.Written.{Written}
 use Rattle.commands.specs.declared.Written.TheVariants.{Refused, Failed, Stored, Updated}
 
 -- the codes that refuse a write of a whole field
 pub data Code : ℕ → Type 0 where
-  mode-off : Code 0x92
+  mode_off : Code 0x92
   not_listed : Code 0x84
-  not-accepted : Code 0x97
-  journal-full : Code 0xC0
+  not_accepted : Code 0x97
+  journal_full : Code 0xC0
 
 -- the fields that hold a float: coefficients and points, and the sentinels, part 5 of each parameter
 pub data FloatAt (o : ℕ) : Type 0 where
-  in-procedure : (10 ≤ o) × (o ≤ 23) → FloatAt o
-  in-parameter : (30 ≤ o) × (o ≤ 53) → parameterPart o ≡ 5 → FloatAt o
+  in_procedure : (10 ≤ o) × (o ≤ 23) → FloatAt o
+  in_parameter : (30 ≤ o) × (o ≤ 53) → parameter_part o ≡ 5 → FloatAt o
 
 pub float_below : {o : ℕ} → FloatAt o → o ≤ 53
-float_below (in-procedure r) = omega (arith, r.1)
-float_below (in-parameter r p) = r.1
+float_below (in_procedure r) = omega (arith, r.1)
+float_below (in_parameter r p) = r.1
 
 -- a setup with the value of the field at offset o stored, and what was asked of the value
 pub data Change (sensor : ℕ) (s : Setup) (o high low : ℕ) : Setup → Type 0 where
   same : o ≡ 5 → Change sensor s o high low s
   restart : (mode : Bool) → o ≡ 5 → Change sensor s o high low (restarted s mode)
-  next : o ≡ 3 → Change sensor s o high low (withActive s (active s.active.calibration (pattern high low)))
-  method : o ≡ 6 → methodAllowed sensor high ≡ true
-      → Change sensor s o high low (withProcedure s (procedure s.procedure.calibrating s.procedure.trial high s.procedure.points))
-  float : (x : Float) → FloatAt o → float_of high low ≡ Finite x → Change sensor s o high low (withFloat s o x)
-  level : (30 ≤ o) × (o ≤ 53) → parameterPart o ≡ 2 → levelAllowed high ≡ true
-      → Change sensor s o high low (withParameters s (withLevel s.parameters high))
-  units : (k : ℕ) → (30 ≤ o) × (o ≤ 53) → k ≡ parameterNumber o → parameterPart o ≡ 3 → unitsAllowed (id_of sensor k) high ≡ true
-      → Change sensor s o high low (withParameters s (withParameter s.parameters k (record { units = high; sentinel = (parameterOf s.parameters k).sentinel })))
+  next : o ≡ 3 → Change sensor s o high low (with_active s (active s.active.calibration (pattern high low)))
+  method : o ≡ 6 → method_allowed sensor high ≡ true
+      → Change sensor s o high low (with_procedure s (procedure s.procedure.calibrating s.procedure.trial high s.procedure.points))
+  float : (x : Float) → FloatAt o → float_of high low ≡ Finite x → Change sensor s o high low (with_float s o x)
+  level : (30 ≤ o) × (o ≤ 53) → parameter_part o ≡ 2 → level_allowed high ≡ true
+      → Change sensor s o high low (with_parameters s (with_level s.parameters high))
+  units : (k : ℕ) → (30 ≤ o) × (o ≤ 53) → k ≡ parameter_number o → parameter_part o ≡ 3 → units_allowed (id_of sensor k) high ≡ true
+      → Change sensor s o high low (with_parameters s (with_parameter s.parameters k (record { units = high; sentinel = (parameter_of s.parameters k).sentinel })))
 
 -- what a write comes to
 pub data Outcome (sensor : ℕ) (s : Setup) (o high low : ℕ) (context : Context) : Written → Type 0 where
   refused : {code : ℕ} → Code code → Outcome sensor s o high low context (Refused code)
-  failed : (c : Coefficients) → o ≡ 5 → high ≡ 0xE001 → s.procedure.calibrating ≡ true → judgedOf sensor (methodSet s) ≡ OutsideLimits c
-      → Outcome sensor s o high low context (Failed (withTrial s c))
+  failed : (c : Coefficients) → o ≡ 5 → high ≡ 0xE001 → s.procedure.calibrating ≡ true → judged_of sensor (method_set s) ≡ OutsideLimits c
+      → Outcome sensor s o high low context (Failed (with_trial s c))
   stored : {t : Setup} → Change sensor s o high low t → Outcome sensor s o high low context (Stored t)
-  update : (c : Coefficients) → o ≡ 5 → high ≡ 0xE001 → s.procedure.calibrating ≡ true → context.spare ≡ true → judgedOf sensor (methodSet s) ≡ Accepted c
-      → Outcome sensor s o high low context (Updated (calibratedAt s c context.clock) (entry_of sensor (methodSet s) c context.clock context.technician))
+  update : (c : Coefficients) → o ≡ 5 → high ≡ 0xE001 → s.procedure.calibrating ≡ true → context.spare ≡ true → judged_of sensor (method_set s) ≡ Accepted c
+      → Outcome sensor s o high low context (Updated (calibrated_at s c context.clock) (entry_of sensor (method_set s) c context.clock context.technician))
 
 module _ (sensor : ℕ) (s : Setup) (o high low : ℕ) (context : Context) where
   abbrev P : Written → Type 0
   P = Outcome sensor s o high low context
 
-  judged-outcome : o ≡ 5 → high ≡ 0xE001 → s.procedure.calibrating ≡ true → (v : Verdict) → judgedOf sensor (methodSet s) ≡ v → P (judgedUpdate sensor s context v)
-  judged-outcome i u m (Accepted c) e = choose P context.spare _ _ (λ r. update c i u m r e) (λ r. refused journal-full)
-  judged-outcome i u m (OutsideLimits c) e = failed c i u m e
-  judged-outcome i u m CandidateNotFinite e = refused not-accepted
-  judged-outcome i u m Undefined e = refused not-accepted
+  judged_outcome : o ≡ 5 → high ≡ 0xE001 → s.procedure.calibrating ≡ true → (v : Verdict) → judged_of sensor (method_set s) ≡ v → P (judged_update sensor s context v)
+  judged_outcome i u m (Accepted c) e = choose P context.spare _ _ (λ r. update c i u m r e) (λ r. refused journal_full)
+  judged_outcome i u m (OutsideLimits c) e = failed c i u m e
+  judged_outcome i u m CandidateNotFinite e = refused not_accepted
+  judged_outcome i u m Undefined e = refused not_accepted
 
-  command-outcome : o ≡ 5 → P (commanded sensor s high context)
+  command_outcome : o ≡ 5 → P (commanded sensor s high context)
   unfolding commanded updated
-  command-outcome i =
+  command_outcome i =
       choose P (eqb high 0xE000) _ _ (λ e. choose P s.procedure.calibrating _ _ (λ m. stored (same i)) (λ m. stored (restart true i)))
       (λ e. choose P (eqb high 0xE001) _ _
-      (λ u. choose P s.procedure.calibrating _ _ (λ m. judged-outcome i (eqb-true high 0xE001 u) m (judgedOf sensor (methodSet s)) refl) (λ m. refused mode-off))
+      (λ u. choose P s.procedure.calibrating _ _ (λ m. judged_outcome i (eqb-true high 0xE001 u) m (judged_of sensor (method_set s)) refl) (λ m. refused mode_off))
       (λ e. choose P (eqb high 0xE002) _ _ (λ e. choose P s.procedure.calibrating _ _ (λ m. stored (restart false i)) (λ m. stored (same i)))
       (λ e. refused not_listed)))
 
-  float-outcome : FloatAt o → P (floatWritten s o high low)
-  unfolding floatWritten
-  float-outcome a = go (float_of high low) refl
+  float_outcome : FloatAt o → P (float_written s o high low)
+  unfolding float_written
+  float_outcome a = go (float_of high low) refl
     where
-      go : (r : FloatOf) → float_of high low ≡ r → P (floatStored s o r)
+      go : (r : FloatOf) → float_of high low ≡ r → P (float_stored s o r)
       go (Finite x) e = stored (float x a e)
       go NotFinite e = refused not_listed
 
-  parameter-outcome : (30 ≤ o) × (o ≤ 53) → P (parameterWritten sensor s o high low)
-  unfolding parameterWritten levelWritten unitsWritten
-  parameter-outcome r =
-      choose P (eqb (parameterPart o) 2) _ _
-      (λ e. choose P (levelAllowed high) _ _ (λ l. stored (level r (eqb-true (parameterPart o) 2 e) l)) (λ l. refused not_listed))
-      (λ e. choose P (eqb (parameterPart o) 3) _ _
-      (λ e. choose P (unitsAllowed (id_of sensor (parameterNumber o)) high) _ _ (λ l. stored (units _ r refl (eqb-true (parameterPart o) 3 e) l)) (λ l. refused not_listed))
-      (λ e. choose P (eqb (parameterPart o) 5) _ _ (λ e. float-outcome (in-parameter r (eqb-true (parameterPart o) 5 e)))
+  parameter_outcome : (30 ≤ o) × (o ≤ 53) → P (parameter_written sensor s o high low)
+  unfolding parameter_written level_written units_written
+  parameter_outcome r =
+      choose P (eqb (parameter_part o) 2) _ _
+      (λ e. choose P (level_allowed high) _ _ (λ l. stored (level r (eqb-true (parameter_part o) 2 e) l)) (λ l. refused not_listed))
+      (λ e. choose P (eqb (parameter_part o) 3) _ _
+      (λ e. choose P (units_allowed (id_of sensor (parameter_number o)) high) _ _ (λ l. stored (units _ r refl (eqb-true (parameter_part o) 3 e) l)) (λ l. refused not_listed))
+      (λ e. choose P (eqb (parameter_part o) 5) _ _ (λ e. float_outcome (in_parameter r (eqb-true (parameter_part o) 5 e)))
       (λ e. refused not_listed)))
 
-  field-outcome : P (fieldWritten sensor s o high low context)
-  unfolding fieldWritten nextWritten methodWritten
-  field-outcome =
+  field_outcome : P (field_written sensor s o high low context)
+  unfolding field_written next_written method_written
+  field_outcome =
       choose P (eqb o 3) _ _ (λ e. stored (next (eqb-true o 3 e)))
-      (λ e. choose P (eqb o 5) _ _ (λ e. command-outcome (eqb-true o 5 e))
+      (λ e. choose P (eqb o 5) _ _ (λ e. command_outcome (eqb-true o 5 e))
       (λ e. choose P (eqb o 6) _ _
-      (λ e. choose P (methodAllowed sensor high) _ _ (λ m. stored (method (eqb-true o 6 e) m)) (λ m. refused not_listed))
-      (λ e. choose P (leb 10 o && leb o 23) _ _ (λ e. float-outcome (in-procedure (between 10 23 e)))
-      (λ e. choose P (leb 30 o && leb o 53) _ _ (λ e. parameter-outcome (between 30 53 e))
+      (λ e. choose P (method_allowed sensor high) _ _ (λ m. stored (method (eqb-true o 6 e) m)) (λ m. refused not_listed))
+      (λ e. choose P (leb 10 o && leb o 23) _ _ (λ e. float_outcome (in_procedure (between 10 23 e)))
+      (λ e. choose P (leb 30 o && leb o 53) _ _ (λ e. parameter_outcome (between 30 53 e))
       (λ e. refused not_listed)))))
     where
       between : (a b : ℕ) → (leb a o && leb o b) ≡ true → (a ≤ o) × (o ≤ b)
       between a b e = let t = both (leb a o) (leb o b) e in (leb-true a o t.0, leb-true o b t.1)
 
 -- the outcome of a write
-pub write-outcome : (sensor : ℕ) (s : Setup) (f : Field) (high low : ℕ) (context : Context)
-    → Outcome sensor s f.offset high low context (writeOf sensor s f high low context)
-unfolding writeOf
-write-outcome sensor s f high low context =
-    choose P (eqb f.access 2 && not s.procedure.calibrating) _ _ (λ e. refused mode-off) (λ e. field-outcome sensor s f.offset high low context)
+pub write_outcome : (sensor : ℕ) (s : Setup) (f : Field) (high low : ℕ) (context : Context)
+    → Outcome sensor s f.offset high low context (write_of sensor s f high low context)
+unfolding write_of
+write_outcome sensor s f high low context =
+    choose P (eqb f.access 2 && not s.procedure.calibrating) _ _ (λ e. refused mode_off) (λ e. field_outcome sensor s f.offset high low context)
   where
     P : Written → Type 0
     P = Outcome sensor s f.offset high low context
 
 -- what was stored
-pub stored-change : {sensor : ℕ} {s : Setup} {o high low : ℕ} {context : Context} {w : Written} → Outcome sensor s o high low context w → (t : Setup) → w ≡ Stored t
+pub stored_change : {sensor : ℕ} {s : Setup} {o high low : ℕ} {context : Context} {w : Written} → Outcome sensor s o high low context w → (t : Setup) → w ≡ Stored t
     → Change sensor s o high low t
-stored-change (refused h) t e = let z : ◌≡◌ {A = ℕ} 0 1 = cc in absurd (omega arith)
-stored-change (failed c i u m j) t e = let z : ◌≡◌ {A = ℕ} 0 1 = cc in absurd (omega arith)
-stored-change {sensor} {s} {o} {high} {low} (stored {t = u} h) t e = subst (Change sensor s o high low) (same-setup u t e) h
+stored_change (refused h) t e = let z : ◌≡◌ {A = ℕ} 0 1 = cc in absurd (omega arith)
+stored_change (failed c i u m j) t e = let z : ◌≡◌ {A = ℕ} 0 1 = cc in absurd (omega arith)
+stored_change {sensor} {s} {o} {high} {low} (stored {t = u} h) t e = subst (Change sensor s o high low) (same-setup u t e) h
   where
     same-setup : (u t : Setup) → Stored u ≡ Stored t → u ≡ t
     same-setup u t e = cc
-stored-change (update c i u m r j) t e = let z : ◌≡◌ {A = ℕ} 0 1 = cc in absurd (omega arith)
+stored_change (update c i u m r j) t e = let z : ◌≡◌ {A = ℕ} 0 1 = cc in absurd (omega arith)

@@ -5,17 +5,17 @@ use mathlib.Core.Bool.{Bool, true, ◌&&◌, ◌||◌, not, cond, beq}
 use Prim.Native.Nat.{ℕ, ◌/◌, ◌%◌, ◌≤◌}
 use lib.Dec.{eqb, leb, ltb}
 use borrow.Author.Tests.{eqb-true, eq-eqb, ne_eqb, le-leb}
-use Rattle.floats.proofs.Bools.{beq-true}
-use Rattle.parameters.specs.Parameters.{parameterPart}
+use Rattle.floats.proofs.Bools.{beq_true}
+use Rattle.parameters.specs.Parameters.{parameter_part}
 use Rattle.fields.specs.declared.Field.{Field}
 use Rattle.fields.specs.Fields.Found.{Row}
-use Rattle.fields.specs.Fields.{fields, ownerBit, owns, field_at}
-use Rattle.fields.proofs.Computed.{other, given, every, below, at-number}
-use Rattle.fields.proofs.Registers.{owner-below, found-test, found-covered}
+use Rattle.fields.specs.Fields.{fields, owner_bit, owns, field_at}
+use Rattle.fields.proofs.Computed.{other, given, every, below, at_number}
+use Rattle.fields.proofs.Registers.{owner_below, found_test, found_covered}
 
 -- the fields of one word: the command, the method, the technician's number, and of a parameter the id and the units, parts 2 and 3
 abbrev pub one_word : ℕ → Bool
-one_word o = cond (ltb o 30) (eqb o 5 || (eqb o 6 || eqb o 9)) (leb (parameterPart o) 3)
+one_word o = cond (ltb o 30) (eqb o 5 || (eqb o 6 || eqb o 9)) (leb (parameter_part o) 3)
 
 -- the parts of a parameter that show no measurement
 abbrev pub settled : ℕ → Bool
@@ -28,14 +28,14 @@ module _ (r : ℕ) (f : Field) (found : field_at r ≡ Row f) (writable : f.acce
 
   -- it passes a test that all such rows pass
   passes : (t : Field → Bool) → every (λ g. eqb g.access 0 || t g) fields ≡ true → t f ≡ true
-  passes t h = other (eqb f.access 0) (t f) (ne_eqb f.access 0 writable) (found-test (λ g. eqb g.access 0 || t g) h r f found)
+  passes t h = other (eqb f.access 0) (t f) (ne_eqb f.access 0 writable) (found_test (λ g. eqb g.access 0 || t g) h r f found)
 
   -- it passes t where it passes c, if all such rows do
   rule : (c t : Field → Bool) → every (λ g. eqb g.access 0 || (not (c g) || t g)) fields ≡ true → c f ≡ true → t f ≡ true
   rule c t h = given (c f) (t f) (passes (λ g. not (c g) || t g) h)
 
-  pub one-word : eqb f.words 1 ≡ one_word o
-  one-word = beq-true (eqb f.words 1) (one_word o) (passes (λ g. beq (eqb g.words 1) (one_word g.offset)) refl)
+  pub one_word_holds : eqb f.words 1 ≡ one_word o
+  one_word_holds = beq_true (eqb f.words 1) (one_word o) (passes (λ g. beq (eqb g.words 1) (one_word g.offset)) refl)
 
   -- coefficients and points begin at even offsets
   pub even : 10 ≤ o → o ≤ 23 → o % 2 ≡ 0
@@ -46,17 +46,17 @@ module _ (r : ℕ) (f : Field) (found : field_at r ≡ Row f) (writable : f.acce
   modal l h = eqb-true f.access 2 (rule (λ g. leb 10 g.offset && leb g.offset 15) (λ g. eqb g.access 2) refl (rw (le-leb 10 o l, le-leb o 15 h)))
 
   -- the id that can be written is parameter 2's
-  pub level-offset : parameterPart o ≡ 2 → o ≡ 40
-  level-offset p = eqb-true o 40 (rule (λ g. eqb (parameterPart g.offset) 2) (λ g. eqb g.offset 40) refl (eq-eqb (parameterPart o) 2 p))
+  pub level_offset : parameter_part o ≡ 2 → o ≡ 40
+  level_offset p = eqb-true o 40 (rule (λ g. eqb (parameter_part g.offset) 2) (λ g. eqb g.offset 40) refl (eq-eqb (parameter_part o) 2 p))
 
   -- and sensor 3's
-  pub level-sensor : parameterPart o ≡ 2 → r / 100 ≡ 3
-  unfolding owns ownerBit
-  level-sensor p =
-      let own = (found-covered r f found).owned in
-      let only = rule (λ g. eqb (parameterPart g.offset) 2) (λ g. below (λ k. not (owns g k) || eqb k 3) 5) refl (eq-eqb (parameterPart o) 2 p) in
-      eqb-true (r / 100) 3 (given (owns f (r / 100)) (eqb (r / 100) 3) (at-number (λ k. not (owns f k) || eqb k 3) 5 only (r / 100) (owner-below f (r / 100) own)) own)
+  pub level_sensor : parameter_part o ≡ 2 → r / 100 ≡ 3
+  unfolding owns owner_bit
+  level_sensor p =
+      let own = (found_covered r f found).owned in
+      let only = rule (λ g. eqb (parameter_part g.offset) 2) (λ g. below (λ k. not (owns g k) || eqb k 3) 5) refl (eq-eqb (parameter_part o) 2 p) in
+      eqb-true (r / 100) 3 (given (owns f (r / 100)) (eqb (r / 100) 3) (at_number (λ k. not (owns f k) || eqb k 3) 5 only (r / 100) (owner_below f (r / 100) own)) own)
 
   -- of a parameter no part that shows a measurement can be written
-  pub written-part : 30 ≤ o → settled (parameterPart o) ≡ true
-  written-part l = rule (λ g. leb 30 g.offset) (λ g. settled (parameterPart g.offset)) refl (le-leb 30 o l)
+  pub written_part : 30 ≤ o → settled (parameter_part o) ≡ true
+  written_part l = rule (λ g. leb 30 g.offset) (λ g. settled (parameter_part g.offset)) refl (le-leb 30 o l)

@@ -1,6 +1,6 @@
 // What a write of one whole field does: to a sensor's setup, or to the device.
 ghost use Rattle.std.specs.Prelude.{◌≡◌, ◌≤◌};
-ghost use Rattle.writes.specs.Writes.{nextWritten, methodWritten, trialAt, pointAt, withSentinel, withFloat, floatWritten, levelWritten, unitsWritten, parameterWritten, fieldWritten, writeOf, writeTo};
+ghost use Rattle.writes.specs.Writes.{next_written, method_written, trial_at, point_at, with_sentinel, with_float, float_written, level_written, units_written, parameter_written, field_written, write_of, write_to};
 
 use coefficients::Coefficients;
 use commands::{Context, Written, command};
@@ -13,7 +13,7 @@ use sensors::{Parameters, Setup};
 
 // The next calibration's time.
 fn write_next(mut s: Setup, high: u16, low: u16) -> Written
-    ensures { result ≡ nextWritten s high low }
+    ensures { result ≡ next_written s high low }
 {
     let next = (high as u32) * 65536 + (low as u32);
     s.active.next = next;
@@ -21,7 +21,7 @@ fn write_next(mut s: Setup, high: u16, low: u16) -> Written
 }
 
 fn write_method(sensor: u16, mut s: Setup, value: u16) -> Written
-    ensures { result ≡ methodWritten sensor s value }
+    ensures { result ≡ method_written sensor s value }
 {
     if !method_allowed(sensor, value) {
         return Written::Refused(codes::WRITE_VALUE);
@@ -32,7 +32,7 @@ fn write_method(sensor: u16, mut s: Setup, value: u16) -> Written
 
 // The trial coefficients with the one at this offset replaced.
 fn trial_at(mut c: Coefficients, offset: u16, x: f32) -> Coefficients
-    ensures { result ≡ trialAt c offset x }
+    ensures { result ≡ trial_at c offset x }
 {
     match offset {
         10 => c.coefficient1 = x,
@@ -44,7 +44,7 @@ fn trial_at(mut c: Coefficients, offset: u16, x: f32) -> Coefficients
 
 // The points with the value at this offset replaced.
 fn point_at(mut p: Points, offset: u16, x: f32) -> Points
-    ensures { result ≡ pointAt p offset x }
+    ensures { result ≡ point_at p offset x }
 {
     match offset {
         16 => p.x1 = x,
@@ -57,7 +57,7 @@ fn point_at(mut p: Points, offset: u16, x: f32) -> Points
 
 // The parameters with the sentinel of parameter k replaced.
 fn with_sentinel(q: Parameters, k: u16, x: f32) -> Parameters
-    ensures { result ≡ withSentinel q k x }
+    ensures { result ≡ with_sentinel q k x }
 {
     let mut p = q.parameter(k);
     p.sentinel = x;
@@ -66,7 +66,7 @@ fn with_sentinel(q: Parameters, k: u16, x: f32) -> Parameters
 
 // The setup with the float at this offset replaced: a trial coefficient, a value of the points, or a sentinel.
 fn with_float(mut s: Setup, offset: u16, x: f32) -> Setup
-    ensures { result ≡ withFloat s offset x }
+    ensures { result ≡ with_float s offset x }
 {
     let mut p = s.procedure;
     if offset < 16 {
@@ -84,7 +84,7 @@ fn with_float(mut s: Setup, offset: u16, x: f32) -> Setup
 }
 
 fn write_float(s: Setup, offset: u16, high: u16, low: u16) -> Written
-    ensures { result ≡ floatWritten s offset high low }
+    ensures { result ≡ float_written s offset high low }
 {
     let value = floats::float_of(high, low);
     match value {
@@ -95,7 +95,7 @@ fn write_float(s: Setup, offset: u16, high: u16, low: u16) -> Written
 
 // The id of the level.
 fn write_level(mut s: Setup, value: u16) -> Written
-    ensures { result ≡ levelWritten s value }
+    ensures { result ≡ level_written s value }
 {
     if !parameters::level_allowed(value) {
         return Written::Refused(codes::WRITE_VALUE);
@@ -105,7 +105,7 @@ fn write_level(mut s: Setup, value: u16) -> Written
 }
 
 fn write_units(sensor: u16, mut s: Setup, k: u16, value: u16) -> Written
-    ensures { result ≡ unitsWritten sensor s k value }
+    ensures { result ≡ units_written sensor s k value }
 {
     let id = parameters::parameter_id(sensor, k);
     if !parameters::units_allowed(id, value) {
@@ -122,7 +122,7 @@ fn write_units(sensor: u16, mut s: Setup, k: u16, value: u16) -> Written
 // A register of a parameter. No field that can be written is at a part other than 2, 3 and 5.
 fn write_parameter(sensor: u16, s: Setup, offset: u16, high: u16, low: u16) -> Written
     requires { 30 ≤ offset }
-    ensures { result ≡ parameterWritten sensor s offset high low }
+    ensures { result ≡ parameter_written sensor s offset high low }
 {
     let part = (offset - 30) % 8;
     match part {
@@ -135,7 +135,7 @@ fn write_parameter(sensor: u16, s: Setup, offset: u16, high: u16, low: u16) -> W
 
 // The field at this offset, once the mode allows the write. No field that can be written is at an offset outside these ranges.
 fn write_field(sensor: u16, s: Setup, offset: u16, high: u16, low: u16, context: Context) -> Written
-    ensures { result ≡ fieldWritten sensor s offset high low context }
+    ensures { result ≡ field_written sensor s offset high low context }
 {
     match offset {
         3 => write_next(s, high, low),
@@ -156,7 +156,7 @@ fn write_sensor(
     low: u16,
     context: Context,
 ) -> Written
-    ensures { result ≡ writeOf sensor s field high low context }
+    ensures { result ≡ write_of sensor s field high low context }
 {
     let calibrating = s.procedure.calibrating;
     if (field.access == MODAL) & !calibrating {
@@ -167,7 +167,7 @@ fn write_sensor(
 
 // The write of an owner's field that isn't read-only: the device's one is the technician's number, which any word is; else a sensor's.
 pub fn write(owner: u16, s: Setup, field: Field, high: u16, low: u16, context: Context) -> Written
-    ensures { result ≡ writeTo owner s field high low context }
+    ensures { result ≡ write_to owner s field high low context }
 {
     if owner == 0 {
         return Written::Technician(high);

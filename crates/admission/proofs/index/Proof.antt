@@ -10,5 +10,5 @@ returns c = search rules
 returns-2 : tie.Need-returns-2
 returns-2 c = refl
 
-pub index-spec : {M : Type 1} → statement M
-index-spec = tie.close (tie.spec returns (λ c. search rules) returns-2)
+pub index_spec : {M : Type 1} → statement M
+index_spec = tie.close (tie.spec returns (λ c. search rules) returns-2)

@@ -8,12 +8,12 @@ use types.Run.{OneOf, miss}
 use Rattle.plans.specs.declared.Plan.{Plan}
 use Rattle.plans.specs.declared.Plan.TheVariants.{Bad, Foreign, BroadcastRead, Refused, Reading, Writing}
 use Rattle.plans.specs.contracts.Plan.{the_type}
-use Rattle.admission.specs.Steps.{ownerOf}
+use Rattle.admission.specs.Steps.{owner_of}
 use borrow.Author.Rules.{rules}
 use Rattle.admission.proofs.sensor_index.Statement.{statement}
 use Rattle.admission.proofs.sensor_index.Tie as tie
 
-none : (p : Plan) → OneOf (0 ∷ 1 ∷ 2 ∷ 3 ∷ []) (tag_of the_type p) → 0 ≡ ownerOf p - 1
+none : (p : Plan) → OneOf (0 ∷ 1 ∷ 2 ∷ 3 ∷ []) (tag_of the_type p) → 0 ≡ owner_of p - 1
 none Bad h = refl
 none Foreign h = refl
 none BroadcastRead h = refl
@@ -22,7 +22,7 @@ none (Reading start count) h = absurd (miss (0 ∷ 1 ∷ 2 ∷ 3 ∷ []) 4 tt h)
 none (Writing owner f v) h = absurd (miss (0 ∷ 1 ∷ 2 ∷ 3 ∷ []) 5 tt h)
 
 -- below 4, as the owner is at most 4
-placed : (p : Plan) (r : ℕ) → ownerOf p ≤ 4 → r ≡ ownerOf p - 1 → (r ≡ ownerOf p - 1) × (r < 4)
+placed : (p : Plan) (r : ℕ) → owner_of p ≤ 4 → r ≡ owner_of p - 1 → (r ≡ owner_of p - 1) × (r < 4)
 placed p r l e = (e, omega arith)
 
 returns : tie.Need-returns
@@ -38,8 +38,8 @@ returns-2 c =
 returns-3 : tie.Need-returns-3
 returns-3 c = placed c.before.args.judged.plan 0 c.before.requires (none c.before.args.judged.plan c.match.keys3)
 
-pub sensor-index-spec : {M : Type 1} → statement M
-sensor-index-spec =
+pub sensor_index_spec : {M : Type 1} → statement M
+sensor_index_spec =
     tie.close
     (tie.spec
     (λ c. search rules)

@@ -8,5 +8,5 @@ returns : tie.Need-returns
 unfolding last
 returns c = search rules
 
-pub last-digit-spec : {M : Type 1} → statement M
-last-digit-spec = tie.close (tie.spec (λ c κs. search rules) returns)
+pub last_digit_spec : {M : Type 1} → statement M
+last_digit_spec = tie.close (tie.spec (λ c κs. search rules) returns)

@@ -6,7 +6,7 @@ use native.Mathlib.Omega.{arith}
 use lib.ListN.{length}
 use lib.Seq.{sets}
 use Rattle.columns.specs.Columns.{last, cells, hex}
-use Rattle.columns.proofs.Stores.{cells-again, cells-done}
+use Rattle.columns.proofs.Stores.{cells_again, cells_done}
 use Rattle.columns.proofs.put_hex.Statement.{statement}
 use Rattle.columns.proofs.put_hex.Tie as tie
 
@@ -24,16 +24,16 @@ loop-again : tie.Need-loop-preserved invariant-loop decreases-loop
 unfolding last
 loop-again c =
     let l = c.before.before.loop in
-    (search rules, search rules, cells-again 16 (last 16) l.left l.rest l.buffer _ _ _ (search rules) c.digit.ensures l.invariant.2)
+    (search rules, search rules, cells_again 16 (last 16) l.left l.rest l.buffer _ _ _ (search rules) c.digit.ensures l.invariant.2)
 
 returns : tie.Need-returns invariant-loop decreases-loop
 unfolding hex
 returns c =
     let l = c.before.loop in
-    cells-done 16 (last 16) l.left l.rest l.buffer _ _ (search rules) l.invariant.2
+    cells_done 16 (last 16) l.left l.rest l.buffer _ _ (search rules) l.invariant.2
 
-pub put-hex-spec : {M : Type 1} → statement M
-put-hex-spec =
+pub put_hex_spec : {M : Type 1} → statement M
+put_hex_spec =
     tie.close
     (tie.spec
     invariant-loop

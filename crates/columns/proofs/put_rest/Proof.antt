@@ -5,14 +5,14 @@ use Prim.Native.Nat.{◌≤◌}
 use native.Mathlib.Omega.{arith}
 use lib.ListN.{length}
 use lib.Seq.{sets}
-use Rattle.columns.specs.Columns.{lastOrBlank, cells}
-use Rattle.columns.proofs.Stores.{cells-again, cells-done}
+use Rattle.columns.specs.Columns.{last_or_blank, cells}
+use Rattle.columns.proofs.Stores.{cells_again, cells_done}
 use Rattle.columns.proofs.put_rest.Statement.{statement}
 use Rattle.columns.proofs.put_rest.Tie as tie
 
 abbrev invariant-loop : tie.invariant-loop
 invariant-loop buffer₀ at width n left₀ rest₀ buffer left rest =
-    (left ≤ width) × (length buffer ≡ length buffer₀) × (sets buffer at (cells 10 (lastOrBlank 10) left rest) ≡ sets buffer₀ at (cells 10 (lastOrBlank 10) width n))
+    (left ≤ width) × (length buffer ≡ length buffer₀) × (sets buffer at (cells 10 (last_or_blank 10) left rest) ≡ sets buffer₀ at (cells 10 (last_or_blank 10) width n))
 
 abbrev decreases-loop : tie.decreases-loop
 decreases-loop buffer₀ at width n left₀ rest₀ buffer left rest = left
@@ -23,15 +23,15 @@ loop-holds c = (omega arith, refl, refl)
 loop-again : tie.Need-loop-preserved invariant-loop decreases-loop
 loop-again c =
     let l = c.before.before.loop in
-    (search rules, search rules, cells-again 10 (lastOrBlank 10) l.left l.rest l.buffer _ _ _ (search rules) c.last-or-blank.ensures l.invariant.2)
+    (search rules, search rules, cells_again 10 (last_or_blank 10) l.left l.rest l.buffer _ _ _ (search rules) c.last-or-blank.ensures l.invariant.2)
 
 returns : tie.Need-returns invariant-loop decreases-loop
 returns c =
     let l = c.before.loop in
-    cells-done 10 (lastOrBlank 10) l.left l.rest l.buffer _ _ (search rules) l.invariant.2
+    cells_done 10 (last_or_blank 10) l.left l.rest l.buffer _ _ (search rules) l.invariant.2
 
-pub put-rest-spec : {M : Type 1} → statement M
-put-rest-spec =
+pub put_rest_spec : {M : Type 1} → statement M
+put_rest_spec =
     tie.close
     (tie.spec
     invariant-loop

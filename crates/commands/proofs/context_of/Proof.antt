@@ -6,5 +6,5 @@ use Rattle.commands.proofs.context_of.Tie as tie
 returns : tie.Need-returns
 returns c = refl
 
-pub context-of-spec : {M : Type 1} → statement M
-context-of-spec = tie.close (tie.spec returns)
+pub context_of_spec : {M : Type 1} → statement M
+context_of_spec = tie.close (tie.spec returns)

@@ -18,7 +18,7 @@ returns-4 c = simp c.before.w3.given.1
 returns-5 : tie.Need-returns-5
 returns-5 c = simp c.enum-told2.given.1
 
-pub setup-after-spec : {M : Type 1} → statement M
-setup-after-spec =
+pub setup_after_spec : {M : Type 1} → statement M
+setup_after_spec =
     tie.close
     (tie.spec (λ c. search rules) (λ c. search rules) (λ c. search rules) (λ c. search rules) (λ c. search rules) returns returns-2 returns-3 returns-4 returns-5)

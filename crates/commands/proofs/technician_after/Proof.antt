@@ -5,7 +5,7 @@ use Prim.Native.Nat.{ℕ}
 use borrow.Author.Rules.{rules}
 use denote.Enum.Declared.{tag_of}
 use types.Run.{OneOf, miss}
-use Rattle.commands.specs.Commands.{technicianAfter}
+use Rattle.commands.specs.Commands.{technician_after}
 use Rattle.commands.specs.declared.Written.{Written}
 use Rattle.commands.specs.declared.Written.TheVariants.{Refused, Failed, Stored, Updated, Technician}
 use Rattle.commands.specs.contracts.Written.{the_type}
@@ -13,7 +13,7 @@ use Rattle.commands.proofs.technician_after.Statement.{statement}
 use Rattle.commands.proofs.technician_after.Tie as tie
 
 -- any other answer leaves the number
-leaves : (n : ℕ) (w : Written) → OneOf (0 ∷ 1 ∷ 2 ∷ 3 ∷ []) (tag_of the_type w) → n ≡ technicianAfter n w
+leaves : (n : ℕ) (w : Written) → OneOf (0 ∷ 1 ∷ 2 ∷ 3 ∷ []) (tag_of the_type w) → n ≡ technician_after n w
 leaves n (Refused code) h = refl
 leaves n (Failed t) h = refl
 leaves n (Stored t) h = refl
@@ -26,5 +26,5 @@ returns c = simp c.before.w.given.1
 returns-2 : tie.Need-returns-2
 returns-2 c = let a = c.before.args in leaves a.technician a.w c.match.keys2
 
-pub technician-after-spec : {M : Type 1} → statement M
-technician-after-spec = tie.close (tie.spec (λ c. search rules) returns returns-2)
+pub technician_after_spec : {M : Type 1} → statement M
+technician_after_spec = tie.close (tie.spec (λ c. search rules) returns returns-2)

@@ -11,7 +11,7 @@ use Rattle.methods.specs.declared.Verdict.{Verdict}
 use Rattle.methods.specs.declared.Verdict.TheVariants.{Accepted, OutsideLimits, NotFinite, Undefined}
 use Rattle.methods.specs.contracts.Verdict.{the_type}
 use Rattle.sensors.specs.declared.Setup.{Setup}
-use Rattle.commands.specs.Commands.{judgedUpdate, updated}
+use Rattle.commands.specs.Commands.{judged_update, updated}
 use Rattle.commands.specs.declared.Context.{Context}
 use Rattle.commands.specs.declared.Written.{Written}
 use Rattle.commands.specs.declared.Written.TheVariants.{Refused}
@@ -24,7 +24,7 @@ turned true x y = refl
 turned false x y = refl
 
 -- a candidate that isn't finite, and points that give none, are refused by the verdict's code
-refused : (sensor : ℕ) (s : Setup) (context : Context) (v : Verdict) → OneOf (2 ∷ 3 ∷ []) (tag_of the_type v) → judgedUpdate sensor s context v ≡ Refused (code_of v)
+refused : (sensor : ℕ) (s : Setup) (context : Context) (v : Verdict) → OneOf (2 ∷ 3 ∷ []) (tag_of the_type v) → judged_update sensor s context v ≡ Refused (code_of v)
 refused sensor s context (Accepted c) h = absurd (miss (2 ∷ 3 ∷ []) 0 tt h)
 refused sensor s context (OutsideLimits c) h = absurd (miss (2 ∷ 3 ∷ []) 1 tt h)
 refused sensor s context NotFinite h = refl
@@ -75,8 +75,8 @@ returns-5 c =
     let x = e.before.before.args in
     simp (turned x.s.procedure.calibrating, e.if1.false, ← d.method-of.ensures, ← b.judge.ensures, refused x.sensor x.s x.context b.judge.result a.match.keys3, c.code_of_lem.ensures)
 
-pub update-spec : {M : Type 1} → statement M
-update-spec =
+pub update_spec : {M : Type 1} → statement M
+update_spec =
     tie.close
     (tie.spec
     returns

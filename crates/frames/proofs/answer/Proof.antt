@@ -1,7 +1,7 @@
 -- Each arm of the plan is a step of the definition. Assumes nothing.
 use mathlib.Core.Path.{refl}
 use Rattle.words.specs.Overlay.{overlay}
-use Rattle.service.specs.Reads.{deviceOf}
+use Rattle.service.specs.Reads.{device_of}
 use borrow.Author.Rules.{rules}
 use Rattle.frames.proofs.answer.Statement.{statement}
 use Rattle.frames.proofs.answer.Tie as tie
@@ -18,28 +18,28 @@ write-requires c κs =
     let p = c.before.before.before.before.before in
     let x = p.before.before.before.before.before in
     let f = rw p.plan3.given.1 at x.requires.2 in
-    (search rules, f.long, x.requires.1, f.located.owner-most, f.located.device)
+    (search rules, f.long, x.requires.1, f.located.owner_most, f.located.device)
 
 returns : tie.Need-returns
-unfolding overlay deviceOf
+unfolding overlay device_of
 returns c = simp (c.counted.ensures, c.before.enum_told.given.1) (refl, (refl, refl))
 
 returns-2 : tie.Need-returns-2
-unfolding overlay deviceOf
+unfolding overlay device_of
 returns-2 c = simp (c.counted2.ensures, c.before.enum-told2.given.1) (refl, (refl, refl))
 
 returns-3 : tie.Need-returns-3
-unfolding overlay deviceOf
+unfolding overlay device_of
 returns-3 c = simp (c.counted3.ensures, c.before.enum-told3.given.1) (refl, (refl, refl))
 
 returns-4 : tie.Need-returns-4
-unfolding deviceOf
+unfolding device_of
 returns-4 c =
     let r = c.before.before.before in
     simp (c.counted4.ensures, r.refuse.ensures.0, ← r.refuse.ensures.1, r.before.before.before.plan.given.1) (refl, (refl, refl))
 
 returns-5 : tie.Need-returns-5
-unfolding deviceOf
+unfolding device_of
 returns-5 c =
     let r = c.before.before.before in
     let d = r.before in
@@ -52,8 +52,8 @@ returns-6 c =
     let d = w.before in
     simp (d.before.before.before.before.before.plan3.given.1, ← d.device2.ensures) w.write.ensures
 
-pub answer-spec : {M : Type 1} → statement M
-answer-spec =
+pub answer_spec : {M : Type 1} → statement M
+answer_spec =
     tie.close
     (tie.spec
     (λ c. search rules)

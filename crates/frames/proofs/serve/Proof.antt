@@ -6,60 +6,60 @@ use native.Mathlib.Omega.{arith}
 use lib.ListN.{length, take}
 use Rattle.words.specs.Overlay.{overlay}
 use Rattle.words.specs.Bytes.{Bytes}
-use Rattle.words.proofs.Bytes.{take-bytes}
+use Rattle.words.proofs.Bytes.{take_bytes}
 use Rattle.words.proofs.Stores.{overlay-start}
-use Rattle.framing.specs.Steps.{carriedBy}
-use Rattle.framing.proofs.Carried.{body-again}
-use Rattle.framing.proofs.Sealed.{room-least}
+use Rattle.framing.specs.Steps.{carried_by}
+use Rattle.framing.proofs.Carried.{body_again}
+use Rattle.framing.proofs.Sealed.{room_least}
 use Rattle.plans.proofs.Plans.{Facts}
 use Rattle.sensors.specs.declared.Sensor.{Sensor}
 use Rattle.registers.specs.declared.Device.{Device}
-use Rattle.service.specs.Reads.{deviceOf}
-use Rattle.service.specs.Frame.{planFor}
-use Rattle.service.proofs.Parts.{frame-facts}
-use Rattle.modbus.specs.Request.{headerOf}
+use Rattle.service.specs.Reads.{device_of}
+use Rattle.service.specs.Frame.{plan_for}
+use Rattle.service.proofs.Parts.{frame_facts}
+use Rattle.modbus.specs.Request.{header_of}
 use Rattle.execution.specs.Steps.{Step, effect_of}
-use Rattle.admission.specs.Steps.{judgedOf}
-use Rattle.frames.specs.Steps.{step_of, stepFor}
+use Rattle.admission.specs.Steps.{judged_of}
+use Rattle.frames.specs.Steps.{step_of, step_for}
 use Rattle.admission.specs.declared.Judged.{Judged}
-use Rattle.frames.proofs.Steps.{step-short}
-use Rattle.replies.proofs.Sealed.{reply-sealed}
+use Rattle.frames.proofs.Steps.{step_short}
+use Rattle.replies.proofs.Sealed.{reply_sealed}
 use borrow.Author.Rules.{rules}
 use Rattle.frames.proofs.serve.Statement.{statement}
 use Rattle.frames.proofs.serve.Tie as tie
 
 -- the step by the parts that were judged
-step_same : (own : ℕ) (e : Device) (s : Sensor) (body w : List ℕ) (j : Judged) → j ≡ judgedOf own body
-    → step_of own e s j.header body w j.plan ≡ stepFor own e s (carriedBy body) w
-unfolding stepFor
-step_same own e s body w j q = rw (q, body-again body)
+step_same : (own : ℕ) (e : Device) (s : Sensor) (body w : List ℕ) (j : Judged) → j ≡ judged_of own body
+    → step_of own e s j.header body w j.plan ≡ step_for own e s (carried_by body) w
+unfolding step_for
+step_same own e s body w j q = rw (q, body_again body)
 
 -- what the body asks for has the facts of its plan
-facts : (own : ℕ) (body : List ℕ) → Facts body (planFor own (carriedBy body))
-facts own body = rw (body-again body) at (frame-facts own (carriedBy body))
+facts : (own : ℕ) (body : List ℕ) → Facts body (plan_for own (carried_by body))
+facts own body = rw (body_again body) at (frame_facts own (carried_by body))
 
 -- the reply's body fits a frame
-for-short : (own : ℕ) (e : Device) (s : Sensor) (body w : List ℕ) → length body ≤ 254 → length (stepFor own e s (carriedBy body) w).body ≤ 254
-unfolding stepFor
-for-short own e s body w l = rw (body-again body) (step-short (headerOf body) body own e s w (planFor own (carriedBy body)) (facts own body) l)
+for_short : (own : ℕ) (e : Device) (s : Sensor) (body w : List ℕ) → length body ≤ 254 → length (step_for own e s (carried_by body) w).body ≤ 254
+unfolding step_for
+for_short own e s body w l = rw (body_again body) (step_short (header_of body) body own e s w (plan_for own (carried_by body)) (facts own body) l)
 
 -- bytes over the start of a buffer of bytes
-start-bytes : (buffer b : List ℕ) → Bytes (overlay b buffer) → Bytes b
-start-bytes buffer b h = rw (overlay-start buffer b (length b) refl) at (take-bytes (length b) (overlay b buffer) h)
+start_bytes : (buffer b : List ℕ) → Bytes (overlay b buffer) → Bytes b
+start_bytes buffer b h = rw (overlay-start buffer b (length b) refl) at (take_bytes (length b) (overlay b buffer) h)
 
 answer-requires : tie.Need-answer-requires
 answer-requires c κs =
     let x = c.before.before.before.before.before in
     let a = x.args in
-    rw x.requires.2 (omega (arith, x.requires.0, room-least a.arrival.ascii), x.requires.1, facts a.own a.body.now)
+    rw x.requires.2 (omega (arith, x.requires.0, room_least a.arrival.ascii), x.requires.1, facts a.own a.body.now)
 
 seal-requires : tie.Need-seal-requires
 seal-requires c κs =
     let s = c.before.before.before.before.before in
     let x = s.before.before.before.before.before.before in
     let a = x.args in
-    let e = s.answer.ensures.0 ∙ ap effect_of (step_same a.own (deviceOf a.counters a.technician a.volume.now a.arrival) a.sensor a.body.now a.volume.now a.judged x.requires.2) in
-    (rw e (for-short a.own (deviceOf a.counters a.technician a.volume.now a.arrival) a.sensor a.body.now a.volume.now x.requires.1), search rules)
+    let e = s.answer.ensures.0 ∙ ap effect_of (step_same a.own (device_of a.counters a.technician a.volume.now a.arrival) a.sensor a.body.now a.volume.now a.judged x.requires.2) in
+    (rw e (for_short a.own (device_of a.counters a.technician a.volume.now a.arrival) a.sensor a.body.now a.volume.now x.requires.1), search rules)
 
 returns : tie.Need-returns
 returns c =
@@ -67,15 +67,15 @@ returns c =
     let s = l.before.before.before.before.before.before in
     let x = s.before.before.before.before.before.before in
     let a = x.args in
-    let p = step_same a.own (deviceOf a.counters a.technician a.volume.now a.arrival) a.sensor a.body.now a.volume.now a.judged x.requires.2 in
-    let y = stepFor a.own (deviceOf a.counters a.technician a.volume.now a.arrival) a.sensor (carriedBy a.body.now) a.volume.now in
+    let p = step_same a.own (device_of a.counters a.technician a.volume.now a.arrival) a.sensor a.body.now a.volume.now a.judged x.requires.2 in
+    let y = step_for a.own (device_of a.counters a.technician a.volume.now a.arrival) a.sensor (carried_by a.body.now) a.volume.now in
     let e : s.answer.result ≡ effect_of y = s.answer.ensures.0 ∙ ap effect_of p in
     let r : s.answer.new.1.0 ≡ overlay y.body a.reply.now = s.answer.ensures.1.0 ∙ ap (λ (z : Step). overlay z.body a.reply.now) p in
     let w : s.answer.new.1.1.0 ≡ y.volume = s.answer.ensures.1.1 ∙ ap (λ (z : Step). z.volume) p in
     let t : take (length y.body) (overlay y.body a.reply.now) ≡ y.body = overlay-start a.reply.now y.body (length y.body) refl in
     let k : Bytes s.answer.new.1.0 = record { below = λ i. omega (arith, l.before.before.before.before.slice-known3.given i) } in
-    let b : Bytes y.body = start-bytes a.reply.now y.body (rw r at k) in
-    (rw (l.seal.ensures.0, r, e, t), (l.seal.ensures.1 ∙ rw (r, e, t) (reply-sealed a.arrival.ascii a.reply.now y.body), (w, b)))
+    let b : Bytes y.body = start_bytes a.reply.now y.body (rw r at k) in
+    (rw (l.seal.ensures.0, r, e, t), (l.seal.ensures.1 ∙ rw (r, e, t) (reply_sealed a.arrival.ascii a.reply.now y.body), (w, b)))
 
-pub serve-spec : {M : Type 1} → statement M
-serve-spec = tie.close (tie.spec answer-requires seal-requires (λ c. search rules) (λ c. search rules) returns)
+pub serve_spec : {M : Type 1} → statement M
+serve_spec = tie.close (tie.spec answer-requires seal-requires (λ c. search rules) (λ c. search rules) returns)

@@ -10,5 +10,5 @@ returns c = rw c.if1.true refl
 returns-2 : tie.Need-returns-2
 returns-2 c = rw c.before.if1.false c.rtu-body.ensures
 
-pub body-spec : {M : Type 1} → statement M
-body-spec = tie.close (tie.spec returns (λ c κs. search rules) returns-2)
+pub body_spec : {M : Type 1} → statement M
+body_spec = tie.close (tie.spec returns (λ c κs. search rules) returns-2)

@@ -10,19 +10,19 @@ use borrow.Author.Rules.{rules}
 use borrow.Author.Tests.{eqb-true, ltb-true, le-leb, lt-leb}
 use Rattle.floats.proofs.Bools.{both}
 use Rattle.fields.specs.declared.Field.{Field}
-use Rattle.fields.specs.Fields.{fields, owns, holds, exactly, first_of, wholeField}
-use Rattle.fields.proofs.Runs.{reach, reached, runEnd, all-found-run, run-begins}
-use Rattle.fields.proofs.Search.{no_field, hit, miss, more, row-shape, whole-begins}
-use Rattle.fields.proofs.Spans.{span-whole, span-mismatch, span-gap, span-unowned}
-use Rattle.lookup.specs.Steps.{reachBy}
+use Rattle.fields.specs.Fields.{fields, owns, holds, exactly, first_of, whole_field}
+use Rattle.fields.proofs.Runs.{reach, reached, run_end, all_found-run, run_begins}
+use Rattle.fields.proofs.Search.{no_field, hit, miss, more, row_shape, whole_begins}
+use Rattle.fields.proofs.Spans.{span_whole, span_mismatch, span_gap, span_unowned}
+use Rattle.lookup.specs.Steps.{reach_by}
 use Rattle.lookup.proofs.span.Statement.{statement}
 use Rattle.lookup.proofs.span.Tie as tie
 
 abbrev invariant-loop : tie.invariant-loop
 invariant-loop start count bit offset end table at₀ i₀ at i =
     (at ≤ 65535)
-    × (runEnd start ≡ reached (drop i fields) (start / 100) at)
-    × (wholeField start count ≡ first_of (λ f. exactly f (start / 100) (start % 100) count) (drop i fields))
+    × (run_end start ≡ reached (drop i fields) (start / 100) at)
+    × (whole_field start count ≡ first_of (λ f. exactly f (start / 100) (start % 100) count) (drop i fields))
 
 abbrev decreases-loop : tie.decreases-loop
 decreases-loop start count bit offset end table at₀ i₀ at i = length fields - i
@@ -31,10 +31,10 @@ returns : tie.Need-returns invariant-loop decreases-loop
 returns c =
     let a = c.before.before.args in
     let p = both (eqb c.before.owner-bit.result 0) (ltb 0 a.count) c.if1.true in
-    sym (span-unowned a.start a.count (sym c.before.owner-bit.ensures ∙ eqb-true _ _ p.0) (ltb-true _ _ p.1))
+    sym (span_unowned a.start a.count (sym c.before.owner-bit.ensures ∙ eqb-true _ _ p.0) (ltb-true _ _ p.1))
 
 loop-holds : tie.Need-loop-init invariant-loop decreases-loop
-loop-holds c = let a = c.before.before.before.args in (search rules, run-begins a.start, whole-begins a.start a.count)
+loop-holds c = let a = c.before.before.before.args in (search rules, run_begins a.start, whole_begins a.start a.count)
 
 returns-2 : tie.Need-returns-2 invariant-loop decreases-loop
 unfolding exactly owns
@@ -44,15 +44,15 @@ returns-2 c =
     let a = l.before.before.before.before.args in
     let t : Field → Bool = λ f. exactly f (a.start / 100) (a.start % 100) a.count in
     let e : t (get_or fields l.loop.i no_field) ≡ true = rw (l.before.table.ensures, l.before.before.before.owner-bit.ensures) at c.if2.true in
-    rw l.before.table.ensures (sym (span-whole a.start a.count _ (l.loop.invariant.2 ∙ hit l.loop.i d.loop-test.true t e)))
+    rw l.before.table.ensures (sym (span_whole a.start a.count _ (l.loop.invariant.2 ∙ hit l.loop.i d.loop-test.true t e)))
 
 reach-requires : tie.Need-reach-requires invariant-loop decreases-loop
 reach-requires c κs =
     let d = c.before.before.before.before.before in
-    rw d.before.before.table.ensures (le_trans (row-shape d.before.loop.i d.loop-test.true).ends (omega arith))
+    rw d.before.before.table.ensures (le_trans (row_shape d.before.loop.i d.loop-test.true).ends (omega arith))
 
 loop-again : tie.Need-loop-preserved invariant-loop decreases-loop
-unfolding exactly reach reachBy holds owns
+unfolding exactly reach reach_by holds owns
 loop-again c =
     let d = c.before.before.before.before.before.before in
     let l = d.before in
@@ -71,18 +71,18 @@ returns-3 c =
     let l = c.before.before in
     let a = l.before.before.before.before.args in
     let n = drop_of_length-le fields c.before.loop-test.false in
-    let e : runEnd a.start ≡ l.loop.at = rw n at l.loop.invariant.1 in
-    sym (span-mismatch a.start a.count (all-found-run a.start a.count ∙ rw e (le-leb _ _ c.if3.true)) (rw n at l.loop.invariant.2))
+    let e : run_end a.start ≡ l.loop.at = rw n at l.loop.invariant.1 in
+    sym (span_mismatch a.start a.count (all_found-run a.start a.count ∙ rw e (le-leb _ _ c.if3.true)) (rw n at l.loop.invariant.2))
 
 returns-4 : tie.Need-returns-4 invariant-loop decreases-loop
 returns-4 c =
     let l = c.before.before in
     let a = l.before.before.before.before.args in
-    let e : runEnd a.start ≡ l.loop.at = rw (drop_of_length-le fields c.before.loop-test.false) at l.loop.invariant.1 in
-    sym (span-gap a.start a.count (all-found-run a.start a.count ∙ rw e (lt-leb _ _ c.if3.false)))
+    let e : run_end a.start ≡ l.loop.at = rw (drop_of_length-le fields c.before.loop-test.false) at l.loop.invariant.1 in
+    sym (span_gap a.start a.count (all_found-run a.start a.count ∙ rw e (lt-leb _ _ c.if3.false)))
 
-pub span-spec : {M : Type 1} → statement M
-span-spec =
+pub span_spec : {M : Type 1} → statement M
+span_spec =
     tie.close
     (tie.spec
     invariant-loop

@@ -12,6 +12,6 @@ returns-2 c = simp c.before.m.given.1
 returns-3 : tie.Need-returns-3
 returns-3 c = simp c.before.m2.given.1
 
-pub points-of-spec : {M : Type 1} → statement M
-points-of-spec =
+pub points_of_spec : {M : Type 1} → statement M
+points_of_spec =
     tie.close (tie.spec (λ c. search rules) (λ c. search rules) (λ c. search rules) returns returns-2 returns-3)

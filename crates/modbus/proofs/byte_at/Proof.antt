@@ -11,5 +11,5 @@ returns c =
     let a = c.before.args in
     sym (get_or-eq_default a.body.now 0 {n = a.i} (omega arith))
 
-pub byte-at-spec : {M : Type 1} → statement M
-byte-at-spec = tie.close (tie.spec returns (λ c. search rules) (λ c. search rules))
+pub byte_at_spec : {M : Type 1} → statement M
+byte_at_spec = tie.close (tie.spec returns (λ c. search rules) (λ c. search rules))

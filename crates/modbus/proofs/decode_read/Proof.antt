@@ -31,6 +31,6 @@ returns-4 c =
     let e = d.before in
     simp (eq-eqb _ _ e.if1.false, ← d.word_at.ensures, ← b.word-at2.ensures, le-ltb _ _ a.if2.false, le-ltb _ _ c.if3.false)
 
-pub decode-read-spec : {M : Type 1} → statement M
-decode-read-spec =
+pub decode_read_spec : {M : Type 1} → statement M
+decode_read_spec =
     tie.close (tie.spec returns (λ c κs. search rules) (λ c κs. search rules) returns-2 returns-3 returns-4)

@@ -1,17 +1,17 @@
 -- Each test of the code is the definition's. Assumes nothing.
 use borrow.Author.Tests.{eq-eqb, ne_eqb}
-use Rattle.modbus.specs.Request.{writeOneOf}
+use Rattle.modbus.specs.Request.{write_one_of}
 use borrow.Author.Rules.{rules}
 use Rattle.modbus.proofs.decode_write_one.Statement.{statement}
 use Rattle.modbus.proofs.decode_write_one.Tie as tie
 
 returns : tie.Need-returns
-unfolding writeOneOf
+unfolding write_one_of
 returns c = simp (ne_eqb _ _ c.if1.true)
 
 returns-2 : tie.Need-returns-2
-unfolding writeOneOf
+unfolding write_one_of
 returns-2 c = simp (eq-eqb _ _ c.before.before.if1.false, ← c.before.word_at.ensures, ← c.word-at2.ensures)
 
-pub decode-write-one-spec : {M : Type 1} → statement M
-decode-write-one-spec = tie.close (tie.spec returns (λ c κs. search rules) (λ c κs. search rules) returns-2)
+pub decode_write_one_spec : {M : Type 1} → statement M
+decode_write_one_spec = tie.close (tie.spec returns (λ c κs. search rules) (λ c κs. search rules) returns-2)

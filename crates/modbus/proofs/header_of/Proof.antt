@@ -6,5 +6,5 @@ use Rattle.modbus.proofs.header_of.Tie as tie
 returns : tie.Need-returns
 returns c = simp (c.before.byte_at.ensures, c.byte-at2.ensures)
 
-pub header-of-spec : {M : Type 1} → statement M
-header-of-spec = tie.close (tie.spec (λ c κs. search rules) (λ c κs. search rules) returns)
+pub header_of_spec : {M : Type 1} → statement M
+header_of_spec = tie.close (tie.spec (λ c κs. search rules) (λ c κs. search rules) returns)

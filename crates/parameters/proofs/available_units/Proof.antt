@@ -1,42 +1,42 @@
 -- Each arm is a row of the definition's table. Assumes nothing.
 use borrow.Author.Tests.{ne_eqb}
-use Rattle.parameters.specs.Parameters.{availableUnits}
+use Rattle.parameters.specs.Parameters.{available_units}
 use Rattle.parameters.proofs.available_units.Statement.{statement}
 use Rattle.parameters.proofs.available_units.Tie as tie
 
 returns : tie.Need-returns
-unfolding availableUnits
+unfolding available_units
 returns c = simp c.match.keys1
 
 returns-2 : tie.Need-returns-2
-unfolding availableUnits
+unfolding available_units
 returns-2 c = simp c.match.keys2
 
 returns-3 : tie.Need-returns-3
-unfolding availableUnits
+unfolding available_units
 returns-3 c = simp c.match.keys3
 
 returns-4 : tie.Need-returns-4
-unfolding availableUnits
+unfolding available_units
 returns-4 c = simp c.match.keys4
 
 returns-5 : tie.Need-returns-5
-unfolding availableUnits
+unfolding available_units
 returns-5 c = simp c.match.keys5
 
 returns-6 : tie.Need-returns-6
-unfolding availableUnits
+unfolding available_units
 returns-6 c = simp c.match.keys6
 
 returns-7 : tie.Need-returns-7
-unfolding availableUnits
+unfolding available_units
 returns-7 c = simp c.match.keys7
 
 returns-8 : tie.Need-returns-8
-unfolding availableUnits
+unfolding available_units
 returns-8 c = simp (ne_eqb _ _ c.match.rest.0.0.0.0.0.0.1, ne_eqb _ _ c.match.rest.0.0.0.0.0.1, ne_eqb _ _ c.match.rest.0.0.0.0.1, ne_eqb _ _ c.match.rest.0.0.0.1, ne_eqb _ _ c.match.rest.0.0.1, ne_eqb _ _ c.match.rest.0.1, ne_eqb _ _ c.match.rest.1)
 
-pub available-units-spec : {M : Type 1} → statement M
-available-units-spec =
+pub available_units_spec : {M : Type 1} → statement M
+available_units_spec =
     tie.close
     (tie.spec returns returns-2 returns-3 returns-4 returns-5 returns-6 returns-7 returns-8)

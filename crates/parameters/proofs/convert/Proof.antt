@@ -30,5 +30,5 @@ returns-6 : tie.Need-returns-6
 unfolding converted
 returns-6 c = simp (ne_eqb _ _ c.match.rest.0.0.0.0.1, ne_eqb _ _ c.match.rest.0.0.0.1, ne_eqb _ _ c.match.rest.0.0.1, ne_eqb _ _ c.match.rest.0.1, ne_eqb _ _ c.match.rest.1)
 
-pub convert-spec : {M : Type 1} → statement M
-convert-spec = tie.close (tie.spec returns returns-2 returns-3 returns-4 returns-5 returns-6)
+pub convert_spec : {M : Type 1} → statement M
+convert_spec = tie.close (tie.spec returns returns-2 returns-3 returns-4 returns-5 returns-6)

@@ -1,12 +1,12 @@
 -- Assumes nothing.
 use borrow.Author.Rules.{rules}
-use Rattle.parameters.specs.Parameters.{levelAllowed}
+use Rattle.parameters.specs.Parameters.{level_allowed}
 use Rattle.parameters.proofs.level_allowed.Statement.{statement}
 use Rattle.parameters.proofs.level_allowed.Tie as tie
 
 returns : tie.Need-returns
-unfolding levelAllowed
+unfolding level_allowed
 returns c = search rules
 
-pub level-allowed-spec : {M : Type 1} → statement M
-level-allowed-spec = tie.close (tie.spec returns)
+pub level_allowed_spec : {M : Type 1} → statement M
+level_allowed_spec = tie.close (tie.spec returns)

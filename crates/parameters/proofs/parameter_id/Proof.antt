@@ -52,8 +52,8 @@ returns-12 : tie.Need-returns-12
 unfolding id_of
 returns-12 c = simp (ne_eqb _ _ c.match.rest.0.0.0.1, ne_eqb _ _ c.match.rest.0.0.1, ne_eqb _ _ c.match.rest.0.1, ne_eqb _ _ c.match.rest.1)
 
-pub parameter-id-spec : {M : Type 1} → statement M
-parameter-id-spec =
+pub parameter_id_spec : {M : Type 1} → statement M
+parameter_id_spec =
     tie.close
     (tie.spec
     returns

@@ -42,5 +42,5 @@ returns-3 c =
     rw (← c.before.decode-request.ensures, ← c.plan-request.ensures)
     (sym (asked (eqb h.address 0) (eqb h.function 3) (eqb h.address a.own) _ _ _ e.if1.false d.if2.false))
 
-pub plan-of-spec : {M : Type 1} → statement M
-plan-of-spec = tie.close (tie.spec returns returns-2 (λ c κs. search rules) (λ c κs. search rules) returns-3)
+pub plan_of_spec : {M : Type 1} → statement M
+plan_of_spec = tie.close (tie.spec returns returns-2 (λ c κs. search rules) (λ c κs. search rules) returns-3)

@@ -12,6 +12,6 @@ returns-2 : tie.Need-returns-2
 unfolding target_of
 returns-2 c = simp (← c.before.before.before.target-of.ensures, c.before.owner.given.1)
 
-pub plan-write-spec : {M : Type 1} → statement M
-plan-write-spec =
+pub plan_write_spec : {M : Type 1} → statement M
+plan_write_spec =
     tie.close (tie.spec (λ c κs. search rules) (λ c. search rules) (λ c. search rules) returns returns-2)

@@ -21,8 +21,8 @@ returns-4 : tie.Need-returns-4
 unfolding target_of
 returns-4 c = simp (← c.before.before.before.span.ensures, c.before.enum-told2.given.1, c.code-of2.ensures)
 
-pub target-of-spec : {M : Type 1} → statement M
-target-of-spec =
+pub target_of_spec : {M : Type 1} → statement M
+target_of_spec =
     tie.close
     (tie.spec
     (λ c κs. search rules)

@@ -11,8 +11,8 @@ slice-aggregate-write-all c =
     let p = c.before.before in
     sym (length-take-le p.printout.result p.printout.new.1.0 (omega (arith, p.printout.auto.1.0, p.printout.ensures.1.1)))
 
-pub print-spec : {M : Type 1} → statement M
-print-spec =
+pub print_spec : {M : Type 1} → statement M
+print_spec =
     tie.close
     (tie.spec
     (λ c. search rules)

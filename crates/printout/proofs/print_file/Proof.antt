@@ -4,8 +4,8 @@ use Prim.Native.Nat.{◌/◌}
 use native.Mathlib.Omega.{arith}
 use lib.ListN.{length, take}
 use lib.Seq.{length-take-le}
-use Rattle.printout.proofs.Left.{odd-file, long-file, unsound-left, file-refused, file-printed}
-use Rattle.printout.proofs.Words.{words-stored}
+use Rattle.printout.proofs.Left.{odd_file, long_file, unsound-left, file_refused, file_printed}
+use Rattle.printout.proofs.Words.{words_stored}
 use borrow.Author.Rules.{rules}
 use Rattle.printout.proofs.print_file.Statement.{statement}
 use Rattle.printout.proofs.print_file.Tie as tie
@@ -15,14 +15,14 @@ returns c =
     let a = c.before.before in
     let b = a.before.before in
     let d = b.before.before.before.before in
-    unsound-left d.args.bytes.now d.args.out.now _ _ (odd-file d.args.bytes.now b.if1.true) a.put-unsound.ensures
+    unsound-left d.args.bytes.now d.args.out.now _ _ (odd_file d.args.bytes.now b.if1.true) a.put-unsound.ensures
 
 returns-2 : tie.Need-returns-2
 returns-2 c =
     let a = c.before.before in
     let b = a.before.before in
     let d = b.before.before.before.before.before in
-    unsound-left d.args.bytes.now d.args.out.now _ _ (long-file d.args.bytes.now b.if2.true) a.put-unsound2.ensures
+    unsound-left d.args.bytes.now d.args.out.now _ _ (long_file d.args.bytes.now b.if2.true) a.put-unsound2.ensures
 
 slice-aggregate-print : tie.Need-slice-aggregate-print
 slice-aggregate-print c =
@@ -39,8 +39,8 @@ returns-3 c =
     let r = q.before.before in
     let a = r.before.before.before.before.before.args in
     let b = a.bytes.now in
-    let w = ap (take (length b / 2)) q.put-words.ensures ∙ words-stored a.words.now b (length b / 2) refl (omega arith) in
-    file-refused b _ a.out.now _ _ _ _ _ w r.before.if1.false r.if2.false (search rules) p.print.ensures t.if3.true u.put-unsound3.ensures
+    let w = ap (take (length b / 2)) q.put-words.ensures ∙ words_stored a.words.now b (length b / 2) refl (omega arith) in
+    file_refused b _ a.out.now _ _ _ _ _ w r.before.if1.false r.if2.false (search rules) p.print.ensures t.if3.true u.put-unsound3.ensures
 
 returns-4 : tie.Need-returns-4
 returns-4 c =
@@ -49,11 +49,11 @@ returns-4 c =
     let r = q.before.before in
     let a = r.before.before.before.before.before.args in
     let b = a.bytes.now in
-    let w = ap (take (length b / 2)) q.put-words.ensures ∙ words-stored a.words.now b (length b / 2) refl (omega arith) in
-    file-printed b _ a.out.now _ _ _ w r.before.if1.false r.if2.false (search rules) p.print.ensures c.before.if3.false
+    let w = ap (take (length b / 2)) q.put-words.ensures ∙ words_stored a.words.now b (length b / 2) refl (omega arith) in
+    file_printed b _ a.out.now _ _ _ w r.before.if1.false r.if2.false (search rules) p.print.ensures c.before.if3.false
 
-pub print-file-spec : {M : Type 1} → statement M
-print-file-spec =
+pub print_file_spec : {M : Type 1} → statement M
+print_file_spec =
     tie.close
     (tie.spec
     (λ c κs. search rules)

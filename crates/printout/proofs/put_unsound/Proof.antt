@@ -31,8 +31,8 @@ returns : tie.Need-returns
 unfolding characters
 returns c = (sets-overlay c.args.out.now unsound (search rules), refl)
 
-pub put-unsound-spec : {M : Type 1} → statement M
-put-unsound-spec =
+pub put_unsound_spec : {M : Type 1} → statement M
+put_unsound_spec =
     tie.close
     (tie.spec
     (λ c. search rules)

@@ -6,7 +6,7 @@ use native.Mathlib.Omega.{arith}
 use lib.ListN.{length, drop}
 use lib.Seq.{sets}
 use Rattle.words.specs.Bytes.{words_of}
-use Rattle.printout.proofs.Words.{words-again, words-done}
+use Rattle.printout.proofs.Words.{words_again, words_done}
 use Rattle.printout.proofs.put_words.Statement.{statement}
 use Rattle.printout.proofs.put_words.Tie as tie
 
@@ -29,16 +29,16 @@ loop-again : tie.Need-loop-preserved invariant-loop decreases-loop
 loop-again c =
     let l = c.before.before.before.before in
     let a = l.before.before.before.args in
-    (search rules, search rules, search rules, words-again l.loop.words a.bytes.now l.loop.i _ _ (search rules) c.word.ensures l.loop.invariant.3)
+    (search rules, search rules, search rules, words_again l.loop.words a.bytes.now l.loop.i _ _ (search rules) c.word.ensures l.loop.invariant.3)
 
 returns : tie.Need-returns invariant-loop decreases-loop
 returns c =
     let l = c.before.loop in
     let a = c.before.before.before.before.args in
-    words-done l.words a.bytes.now l.i _ (search rules) l.invariant.3
+    words_done l.words a.bytes.now l.i _ (search rules) l.invariant.3
 
-pub put-words-spec : {M : Type 1} → statement M
-put-words-spec =
+pub put_words_spec : {M : Type 1} → statement M
+put_words_spec =
     tie.close
     (tie.spec
     invariant-loop

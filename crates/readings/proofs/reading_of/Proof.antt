@@ -16,8 +16,8 @@ returns c =
     let h = g.before in
     simp (← h.parameter.ensures, ← g.worked-from.ensures, ← f.value.ensures, ← e.value2.ensures, ← d.convert.ensures, ← b.is_finite.ensures, ← a.is-finite2.ensures, ← c.graded.ensures)
 
-pub reading-of-spec : {M : Type 1} → statement M
-reading-of-spec =
+pub reading_of_spec : {M : Type 1} → statement M
+reading_of_spec =
     tie.close
     (tie.spec
     (λ c κs. search rules)

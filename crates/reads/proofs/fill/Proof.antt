@@ -6,15 +6,15 @@ use native.Mathlib.Omega.{arith}
 use lib.ListN.{length, take}
 use lib.Seq.{take_all, take-suc-set}
 use borrow.Author.Rules.{rules}
-use Rattle.registers.specs.Registers.{registerOf}
-use Rattle.service.specs.Reads.{shownFrom}
-use Rattle.service.proofs.Registers.{shown-more}
+use Rattle.registers.specs.Registers.{register_of}
+use Rattle.service.specs.Reads.{shown_from}
+use Rattle.service.proofs.Registers.{shown_more}
 use Rattle.reads.proofs.fill.Statement.{statement}
 use Rattle.reads.proofs.fill.Tie as tie
 
 abbrev invariant-loop : tie.invariant-loop
 invariant-loop words₀ owner device sensor offset i₀ i-end words i =
-    (i-end ≡ length words₀) × (i ≤ length words₀) × (length words ≡ length words₀) × (take i words ≡ shownFrom (registerOf owner device sensor) offset i)
+    (i-end ≡ length words₀) × (i ≤ length words₀) × (length words ≡ length words₀) × (take i words ≡ shown_from (register_of owner device sensor) offset i)
 
 abbrev decreases-loop : tie.decreases-loop
 decreases-loop words₀ owner device sensor offset i₀ i-end words i = length words₀ - i
@@ -31,7 +31,7 @@ loop-again c =
       search rules,
       search rules,
       search rules,
-      rw (add-one, take-suc-set l.loop.words i c.register_of.result h, l.loop.invariant.3, c.register_of.ensures, shown-more (registerOf a.owner a.device a.sensor) a.offset i),
+      rw (add-one, take-suc-set l.loop.words i c.register_of.result h, l.loop.invariant.3, c.register_of.ensures, shown_more (register_of a.owner a.device a.sensor) a.offset i),
     )
 
 returns : tie.Need-returns invariant-loop decreases-loop

@@ -5,8 +5,8 @@ use Prim.Native.Nat.{ℕ, ◌/◌, ◌%◌, ◌≤◌}
 use native.Mathlib.Omega.{arith}
 use lib.ListN.{length, take, drop, replicate, length-append}
 use lib.Seq.{length-take-le, take_at}
-use Rattle.registers.specs.Registers.{registerOf}
-use Rattle.service.specs.Reads.{shownFrom}
+use Rattle.registers.specs.Registers.{register_of}
+use Rattle.service.specs.Reads.{shown_from}
 use borrow.Author.Rules.{rules}
 use Rattle.reads.proofs.read.Statement.{statement}
 use Rattle.reads.proofs.read.Tie as tie
@@ -59,7 +59,7 @@ returns c =
     let a = f.before.before.before.args in
     let n = a.count in
     let h : n ≤ 125 = omega arith in
-    let w : take n (f.fill.new.0 ++ drop n zeros) ≡ shownFrom (registerOf (a.start / 100) a.device a.sensor) (a.start % 100) n
+    let w : take n (f.fill.new.0 ++ drop n zeros) ≡ shown_from (register_of (a.start / 100) a.device a.sensor) (a.start % 100) n
     = filled n f.fill.new.0 h f.fill.auto.0 ∙ f.fill.ensures ∙ rw (zeros-length n h) in
     (p.put-read.ensures.0 ∙ rw w, p.put-read.ensures.1 ∙ rw w)
 

@@ -11,5 +11,5 @@ returns-2 : tie.Need-returns-2
 unfolding mode_of
 returns-2 c = simp c.if1.false
 
-pub mode-spec : {M : Type 1} → statement M
-mode-spec = tie.close (tie.spec returns returns-2)
+pub mode_spec : {M : Type 1} → statement M
+mode_spec = tie.close (tie.spec returns returns-2)

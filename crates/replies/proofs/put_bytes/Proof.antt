@@ -30,8 +30,8 @@ returns c =
     let e : c.before.loop.i ≡ length c.before.before.args.bytes.now = omega arith in
     rw (e, take-length) at c.before.loop.invariant.3
 
-pub put-bytes-spec : {M : Type 1} → statement M
-put-bytes-spec =
+pub put_bytes_spec : {M : Type 1} → statement M
+put_bytes_spec =
     tie.close
     (tie.spec
     invariant-loop

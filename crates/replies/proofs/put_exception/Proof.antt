@@ -1,6 +1,6 @@
 -- Three stores make the body. Assumes nothing.
 use mathlib.Core.List.{[], ◌∷◌}
-use Rattle.replies.specs.Reply.{exceptionBody, markedOf}
+use Rattle.replies.specs.Reply.{exception_body, marked_of}
 use Rattle.words.proofs.Stores.{sets-overlay}
 use native.Mathlib.Omega.{arith}
 use mathlib.Core.Path.{refl}
@@ -19,14 +19,14 @@ same_length : tie.Need-same-length
 same_length c = simp length-set
 
 returns : tie.Need-returns
-unfolding exceptionBody
+unfolding exception_body
 returns c =
     let a = c.before.before.args in
-    let b = a.address ∷ markedOf a.function ∷ a.code ∷ [] in
+    let b = a.address ∷ marked_of a.function ∷ a.code ∷ [] in
     (refl, rw c.marked.ensures (sets-overlay a.reply.now b (search rules)))
 
-pub put-exception-spec : {M : Type 1} → statement M
-put-exception-spec =
+pub put_exception_spec : {M : Type 1} → statement M
+put_exception_spec =
     tie.close
     (tie.spec
     (λ c. search rules)

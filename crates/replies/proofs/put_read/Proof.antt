@@ -5,7 +5,7 @@ use native.Mathlib.Omega.{arith}
 use lib.ListN.{length, length-set}
 use Rattle.replies.specs.Reply.{read_body}
 use Rattle.words.proofs.Stores.{sets-overlay}
-use Rattle.words.proofs.Bytes.{bytes-length}
+use Rattle.words.proofs.Bytes.{bytes_length}
 use borrow.Author.Rules.{rules}
 use Rattle.replies.proofs.put_read.Statement.{statement}
 use Rattle.replies.proofs.put_read.Tie as tie
@@ -28,11 +28,11 @@ returns c =
     let p = c.before.before in
     let a = p.before.before.before.before.args in
     let b = read_body a.address a.words.now in
-    let e : 3 + 2 * length a.words.now ≡ length b = omega (arith, bytes-length a.words.now) in
+    let e : 3 + 2 * length a.words.now ≡ length b = omega (arith, bytes_length a.words.now) in
     (e, p.put-words.ensures ∙ sets-overlay a.reply.now b (omega arith))
 
-pub put-read-spec : {M : Type 1} → statement M
-put-read-spec =
+pub put_read_spec : {M : Type 1} → statement M
+put_read_spec =
     tie.close
     (tie.spec
     (λ c. search rules)

@@ -35,8 +35,8 @@ returns c =
     let e : c.before.loop.i ≡ length c.before.before.before.before.args.words.now = omega arith in
     rw (e, take-length) at c.before.loop.invariant.3
 
-pub put-words-spec : {M : Type 1} → statement M
-put-words-spec =
+pub put_words_spec : {M : Type 1} → statement M
+put_words_spec =
     tie.close
     (tie.spec
     invariant-loop

@@ -11,8 +11,8 @@ invariant-loop input tally₀ at₀ tally at = at ≤ length input + 1
 abbrev decreases-loop : tie.decreases-loop
 decreases-loop input tally₀ at₀ tally at = length input + 1 - at
 
-pub compare-frames-spec : {M : Type 1} → statement M
-compare-frames-spec =
+pub compare_frames_spec : {M : Type 1} → statement M
+compare_frames_spec =
     tie.close
     (tie.spec
     invariant-loop

@@ -12,8 +12,8 @@ invariant-loop message₀ i₀ message i = (i ≤ 256) × (256 ≡ length messag
 abbrev decreases-loop : tie.decreases-loop
 decreases-loop message₀ i₀ message i = 256 - i
 
-pub pattern-spec : {M : Type 1} → statement M
-pattern-spec =
+pub pattern_spec : {M : Type 1} → statement M
+pattern_spec =
     tie.close
     (tie.spec
     invariant-loop

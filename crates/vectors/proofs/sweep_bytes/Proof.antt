@@ -10,8 +10,8 @@ invariant-loop tally₀ b₀ tally b = b ≤ 256
 abbrev decreases-loop : tie.decreases-loop
 decreases-loop tally₀ b₀ tally b = 256 - b
 
-pub sweep-bytes-spec : {M : Type 1} → statement M
-sweep-bytes-spec =
+pub sweep_bytes_spec : {M : Type 1} → statement M
+sweep_bytes_spec =
     tie.close
     (tie.spec
     invariant-loop

@@ -16,8 +16,8 @@ decreases-loop message tally₀ n₀ tally n = 257 - n
 slice-aggregate-is-same : tie.Need-slice-aggregate-is-same invariant-loop decreases-loop
 slice-aggregate-is-same c = sym (length-take-le _ _ (omega arith))
 
-pub sweep-lengths-spec : {M : Type 1} → statement M
-sweep-lengths-spec =
+pub sweep_lengths_spec : {M : Type 1} → statement M
+sweep_lengths_spec =
     tie.close
     (tie.spec
     invariant-loop

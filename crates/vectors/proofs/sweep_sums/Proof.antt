@@ -10,8 +10,8 @@ invariant-loop tally₀ sum₀ tally sum = sum ≤ 65536
 abbrev decreases-loop : tie.decreases-loop
 decreases-loop tally₀ sum₀ tally sum = 65536 - sum
 
-pub sweep-sums-spec : {M : Type 1} → statement M
-sweep-sums-spec =
+pub sweep_sums_spec : {M : Type 1} → statement M
+sweep_sums_spec =
     tie.close
     (tie.spec
     invariant-loop

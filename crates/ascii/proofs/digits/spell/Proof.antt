@@ -5,16 +5,16 @@ use Prim.Native.Nat.{ℕ, ◌≤◌, ◌<◌, ◌-◌, ◌+◌, ◌*◌, ◌/◌
 use native.Mathlib.Omega.{arith}
 use lib.ListN.{length, get_or, take, drop, length-set}
 use lib.Seq.{sets}
-use Rattle.words.specs.Digits.{hexDigit}
-use Rattle.ascii.specs.Ascii.{hexOf}
-use Rattle.ascii.proofs.Tables.{digitTable, digit_at}
-use Rattle.ascii.proofs.Stores.{spell-again, spell-none}
+use Rattle.words.specs.Digits.{hex_digit}
+use Rattle.ascii.specs.Ascii.{hex_of}
+use Rattle.ascii.proofs.Tables.{digit_table, digit_at}
+use Rattle.ascii.proofs.Stores.{spell_again, spell_none}
 use borrow.Author.Rules.{rules}
 use Rattle.ascii.proofs.digits.spell.Statement.{statement}
 use Rattle.ascii.proofs.digits.spell.Tie as tie
 
 abbrev invariant-loop : tie.invariant-loop
-invariant-loop buffer₀ n digits k₀ buffer k = (digits ≡ digitTable) × (k ≤ n) × (length buffer ≡ length buffer₀) × (buffer ≡ sets buffer₀ (2 * k + 1) (hexOf (drop k (take n buffer₀))))
+invariant-loop buffer₀ n digits k₀ buffer k = (digits ≡ digit_table) × (k ≤ n) × (length buffer ≡ length buffer₀) × (buffer ≡ sets buffer₀ (2 * k + 1) (hex_of (drop k (take n buffer₀))))
 
 abbrev decreases-loop : tie.decreases-loop
 decreases-loop buffer₀ n digits k₀ buffer k = k
@@ -22,7 +22,7 @@ decreases-loop buffer₀ n digits k₀ buffer k = k
 loop-holds : tie.Need-loop-init invariant-loop decreases-loop
 loop-holds c =
     let a = c.args in
-    (refl, omega arith, refl, spell-none a.buffer.now a.n (omega arith))
+    (refl, omega arith, refl, spell_none a.buffer.now a.n (omega arith))
 
 cast-buffer : tie.Need-overflow-cast-buffer invariant-loop decreases-loop
 cast-buffer c = record { fits = omega (arith, c.slice-known.given (c.before.before.loop.k - 1)) }
@@ -41,9 +41,9 @@ loop-again c =
     let k : ℕ = w.loop.k - 1 in
     let b : ℕ = get_or w.loop.buffer k 0 in
     let lt : b < 256 = omega (arith, c.slice-known.given k) in
-    let high : get_or digitTable (b / 16) 0 ≡ hexDigit (b / 16) = digit_at (b / 16) (omega arith) in
-    let low : get_or digitTable (b % 16) 0 ≡ hexDigit (b % 16) = digit_at (b % 16) (omega arith) in
-    let more = spell-again v w.loop.buffer n k w.loop.k (get_or digitTable (b / 16) 0) (get_or digitTable (b % 16) 0) (omega arith) (omega arith) (omega arith) w.loop.invariant.3 high low in
+    let high : get_or digit_table (b / 16) 0 ≡ hex_digit (b / 16) = digit_at (b / 16) (omega arith) in
+    let low : get_or digit_table (b % 16) 0 ≡ hex_digit (b % 16) = digit_at (b % 16) (omega arith) in
+    let more = spell_again v w.loop.buffer n k w.loop.k (get_or digit_table (b / 16) 0) (get_or digit_table (b % 16) 0) (omega arith) (omega arith) (omega arith) w.loop.invariant.3 high low in
     (refl, omega arith, simp length-set w.loop.invariant.2, rw (← more))
 
 returns : tie.Need-returns invariant-loop decreases-loop
@@ -51,8 +51,8 @@ returns c =
     let e : c.before.loop.k ≡ 0 = omega arith in
     rw e at c.before.loop.invariant.3
 
-pub spell-spec : {M : Type 1} → statement M
-spell-spec =
+pub spell_spec : {M : Type 1} → statement M
+spell_spec =
     tie.close
     (tie.spec
     invariant-loop

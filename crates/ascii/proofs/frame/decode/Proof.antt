@@ -8,17 +8,17 @@ use borrow.Author.Tests.{not-true, not-false}
 use lib.ListN.{length, take, drop}
 use Rattle.words.specs.Overlay.{overlay}
 use Rattle.words.proofs.Stores.{overlay-start}
-use Rattle.ascii.specs.Ascii.{digits, spelt, charsOf, asciiBody, enclosed, asciiGood}
-use Rattle.ascii.specs.Steps.{storedOf, read_of}
-use Rattle.ascii.proofs.Reading.{stored-digits}
-use Rattle.ascii.proofs.Judging.{Enclosed, enclosed-parts, part-is, chars-length, body-length, short, long, judged, refused, passed, unread, stored, read-zero, read-good, read-bad, body-said}
+use Rattle.ascii.specs.Ascii.{digits, spelt, chars_of, ascii_body, enclosed, ascii_good}
+use Rattle.ascii.specs.Steps.{stored_of, read_of}
+use Rattle.ascii.proofs.Reading.{stored_digits}
+use Rattle.ascii.proofs.Judging.{Enclosed, enclosed_parts, part_is, chars_length, body_length, short, long, judged, refused, passed, unread, stored, read_zero, read_good, read_bad, body_said}
 use borrow.Author.Rules.{rules}
 use Rattle.ascii.proofs.frame.decode.Statement.{statement}
 use Rattle.ascii.proofs.frame.decode.Tie as tie
 
 -- digits are stored as what they say
-said : (chars bytes exit : List ℕ) → digits chars ≡ true → exit ≡ overlay (storedOf chars) bytes → take (length (spelt chars)) exit ≡ spelt chars
-said chars bytes exit d e = rw (e, stored-digits chars d) (overlay-start bytes (spelt chars) (length (spelt chars)) refl)
+said : (chars bytes exit : List ℕ) → digits chars ≡ true → exit ≡ overlay (stored_of chars) bytes → take (length (spelt chars)) exit ≡ spelt chars
+said chars bytes exit d e = rw (e, stored_digits chars d) (overlay-start bytes (spelt chars) (length (spelt chars)) refl)
 
 returns : tie.Need-returns
 returns c =
@@ -43,8 +43,8 @@ read-requires c κs =
     let e = c.before.before.before in
     let s : List ℕ = e.before.before.before.before.before.args.frame.now in
     let o : enclosed s ≡ true = sym e.enclosed.ensures ∙ not-false e.enclosed.result c.before.before.if3.false in
-    let w : Enclosed s = enclosed-parts s o in
-    let l : length (take (length s - 2 - 1) (drop 1 s)) ≡ length s - 3 = ap length (part-is s) ∙ chars-length s in
+    let w : Enclosed s = enclosed_parts s o in
+    let l : length (take (length s - 2 - 1) (drop 1 s)) ≡ length s - 3 = ap length (part_is s) ∙ chars_length s in
     (omega arith, omega arith)
 
 returns-4 : tie.Need-returns-4
@@ -55,13 +55,13 @@ returns-4 c =
     let a = e.before.before.before.before.before.args in
     let s : List ℕ = a.frame.now in
     let o : enclosed s ≡ true = sym e.enclosed.ensures ∙ not-false e.enclosed.result f.if3.false in
-    let r : x.read.result ≡ read_of (charsOf s) = x.read.ensures.0 ∙ ap read_of (part-is s) in
-    let z : read_of (charsOf s) ≡ 0 = omega (arith, c.if4.true) in
-    let g : asciiGood s ≡ true = read-good s (omega arith) (omega arith) o z in
-    let w : x.read.new.1.0 ≡ overlay (storedOf (charsOf s)) a.bytes.now = x.read.ensures.1 ∙ ap (λ (l : List ℕ). overlay (storedOf l) a.bytes.now) (part-is s) in
-    let t : take (length (spelt (charsOf s))) x.read.new.1.0 ≡ spelt (charsOf s) = said (charsOf s) a.bytes.now x.read.new.1.0 (read-zero (charsOf s) z).all w in
-    let m : (length s - 3) / 2 - 1 ≡ length (asciiBody s) = sym (body-length s) in
-    rw (passed s g) (omega arith, (body-said s x.read.new.1.0 _ m t, w ∙ sym (stored s a.bytes.now (judged s (omega arith) (omega arith) ∙ o))))
+    let r : x.read.result ≡ read_of (chars_of s) = x.read.ensures.0 ∙ ap read_of (part_is s) in
+    let z : read_of (chars_of s) ≡ 0 = omega (arith, c.if4.true) in
+    let g : ascii_good s ≡ true = read_good s (omega arith) (omega arith) o z in
+    let w : x.read.new.1.0 ≡ overlay (stored_of (chars_of s)) a.bytes.now = x.read.ensures.1 ∙ ap (λ (l : List ℕ). overlay (stored_of l) a.bytes.now) (part_is s) in
+    let t : take (length (spelt (chars_of s))) x.read.new.1.0 ≡ spelt (chars_of s) = said (chars_of s) a.bytes.now x.read.new.1.0 (read_zero (chars_of s) z).all w in
+    let m : (length s - 3) / 2 - 1 ≡ length (ascii_body s) = sym (body_length s) in
+    rw (passed s g) (omega arith, (body_said s x.read.new.1.0 _ m t, w ∙ sym (stored s a.bytes.now (judged s (omega arith) (omega arith) ∙ o))))
 
 returns-5 : tie.Need-returns-5
 returns-5 c =
@@ -71,13 +71,13 @@ returns-5 c =
     let a = e.before.before.before.before.before.args in
     let s : List ℕ = a.frame.now in
     let o : enclosed s ≡ true = sym e.enclosed.ensures ∙ not-false e.enclosed.result f.if3.false in
-    let r : x.read.result ≡ read_of (charsOf s) = x.read.ensures.0 ∙ ap read_of (part-is s) in
-    let g : asciiGood s ≡ false = read-bad s (omega arith) (omega arith) o (λ z. c.if4.false (omega arith)) in
-    let w : x.read.new.1.0 ≡ overlay (storedOf (charsOf s)) a.bytes.now = x.read.ensures.1 ∙ ap (λ (l : List ℕ). overlay (storedOf l) a.bytes.now) (part-is s) in
+    let r : x.read.result ≡ read_of (chars_of s) = x.read.ensures.0 ∙ ap read_of (part_is s) in
+    let g : ascii_good s ≡ false = read_bad s (omega arith) (omega arith) o (λ z. c.if4.false (omega arith)) in
+    let w : x.read.new.1.0 ≡ overlay (stored_of (chars_of s)) a.bytes.now = x.read.ensures.1 ∙ ap (λ (l : List ℕ). overlay (stored_of l) a.bytes.now) (part_is s) in
     rw (refused s g) (refl, (refl, w ∙ sym (stored s a.bytes.now (judged s (omega arith) (omega arith) ∙ o))))
 
-pub decode-spec : {M : Type 1} → statement M
-decode-spec =
+pub decode_spec : {M : Type 1} → statement M
+decode_spec =
     tie.close
     (tie.spec
     returns

@@ -45,8 +45,8 @@ returns c =
     let a = l.before.before.before.args in
     (omega arith, rw p.spell.ensures (sealed a.buffer.now a.n l.lrc.result l.lrc.ensures (omega arith)))
 
-pub seal-spec : {M : Type 1} → statement M
-seal-spec =
+pub seal_spec : {M : Type 1} → statement M
+seal_spec =
     tie.close
     (tie.spec
     (λ c. search rules)

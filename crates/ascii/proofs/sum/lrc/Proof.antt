@@ -5,7 +5,7 @@ use Prim.Native.Nat.{ℕ, ◌≤◌, ◌<◌, ◌-◌, ◌+◌, ◌%◌}
 use native.Mathlib.Omega.{arith}
 use lib.ListN.{length, drop}
 use lib.Seq.{drop-length}
-use Rattle.ascii.specs.Ascii.{sum_of, lrcOf}
+use Rattle.ascii.specs.Ascii.{sum_of, lrc_of}
 use Rattle.ascii.proofs.Reading.{sum_step}
 use borrow.Author.Rules.{rules}
 use Rattle.ascii.proofs.sum.lrc.Statement.{statement}
@@ -34,15 +34,15 @@ loop-again c =
     omega (arith, sum_step s at.i h)
 
 returns : tie.Need-returns invariant-loop decreases-loop
-unfolding lrcOf sum_of
+unfolding lrc_of sum_of
 returns c =
     let s : List ℕ = c.before.before.args.bytes.now in
     let e : c.before.loop.i ≡ length s = omega arith in
     let z : drop c.before.loop.i s ≡ [] = ap (λ (k : ℕ). drop k s) e ∙ drop-length s in
     omega (arith, ap sum_of z)
 
-pub lrc-spec : {M : Type 1} → statement M
-lrc-spec =
+pub lrc_spec : {M : Type 1} → statement M
+lrc_spec =
     tie.close
     (tie.spec
     invariant-loop

@@ -12,8 +12,8 @@ invariant-loop lines volume₀ reply₀ run₀ at₀ volume reply run at = (2411
 abbrev decreases-loop : tie.decreases-loop
 decreases-loop lines volume₀ reply₀ run₀ at₀ volume reply run at = length lines + 1 - at
 
-pub play-spec : {M : Type 1} → statement M
-play-spec =
+pub play_spec : {M : Type 1} → statement M
+play_spec =
     tie.close
     (tie.spec
     invariant-loop

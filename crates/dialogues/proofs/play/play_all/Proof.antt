@@ -11,8 +11,8 @@ invariant-loop input tally₀ at₀ tally at = at ≤ length input + 1
 abbrev decreases-loop : tie.decreases-loop
 decreases-loop input tally₀ at₀ tally at = length input + 1 - at
 
-pub play-all-spec : {M : Type 1} → statement M
-play-all-spec =
+pub play_all_spec : {M : Type 1} → statement M
+play_all_spec =
     tie.close
     (tie.spec
     invariant-loop

@@ -9,8 +9,8 @@ use Rattle.dialogues.proofs.play.print_difference.Tie as tie
 slice-aggregate-print-bytes : tie.Need-slice-aggregate-print-bytes
 slice-aggregate-print-bytes c = sym (length-take-le _ _ (omega arith))
 
-pub print-difference-spec : {M : Type 1} → statement M
-print-difference-spec =
+pub print_difference_spec : {M : Type 1} → statement M
+print_difference_spec =
     tie.close
     (tie.spec
     (λ c κs. search rules)

@@ -8,8 +8,8 @@ float-from-bits-result : tie.Need-float-from-bits-result
 unfolding nan_bits
 float-from-bits-result c = tt
 
-pub float-spec : {M : Type 1} → statement M
-float-spec =
+pub float_spec : {M : Type 1} → statement M
+float_spec =
     tie.close
     (tie.spec
     (λ c κs. search rules)

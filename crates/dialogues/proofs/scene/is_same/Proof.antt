@@ -12,8 +12,8 @@ invariant-loop slice count other i₀ i = (i ≤ count) × (count ≤ length sli
 abbrev decreases-loop : tie.decreases-loop
 decreases-loop slice count other i₀ i = count - i
 
-pub is-same-spec : {M : Type 1} → statement M
-is-same-spec =
+pub is_same_spec : {M : Type 1} → statement M
+is_same_spec =
     tie.close
     (tie.spec
     invariant-loop

@@ -9,5 +9,5 @@ use Rattle.dialogues.proofs.scene.lent_bytes.Tie as tie
 returns : tie.Need-returns
 returns c = (omega arith, sym (length-take-le _ _ (omega arith)))
 
-pub lent-bytes-spec : {M : Type 1} → statement M
-lent-bytes-spec = tie.close (tie.spec returns (λ c. search rules))
+pub lent_bytes_spec : {M : Type 1} → statement M
+lent_bytes_spec = tie.close (tie.spec returns (λ c. search rules))

@@ -1,13 +1,13 @@
 -- Assumes nothing.
-use Rattle.sensors.specs.Sensors.{validProcedure}
+use Rattle.sensors.specs.Sensors.{valid_procedure}
 use borrow.Author.Rules.{rules}
 use Rattle.sensors.proofs.Procedure.is_valid.Statement.{statement}
 use Rattle.sensors.proofs.Procedure.is_valid.Tie as tie
 
 returns : tie.Need-returns
-unfolding validProcedure
-returns c = simp (← c.before.before.is_finite.ensures, ← c.before.points-finite.ensures, ← c.method-allowed.ensures)
+unfolding valid_procedure
+returns c = simp (← c.before.before.is_finite.ensures, ← c.before.points_finite_holds.ensures, ← c.method_allowed_holds.ensures)
 
-pub is-valid-spec : {M : Type 1} → statement M
-is-valid-spec =
+pub is_valid_spec : {M : Type 1} → statement M
+is_valid_spec =
     tie.close (tie.spec (λ c κs. search rules) (λ c κs. search rules) (λ c κs. search rules) returns)

@@ -1,11 +1,11 @@
 -- Assumes nothing.
 use mathlib.Core.Path.{refl}
-use Rattle.sensors.specs.Changes.{newProcedure}
+use Rattle.sensors.specs.Changes.{new_procedure}
 use Rattle.sensors.proofs.Procedure.new.Statement.{statement}
 use Rattle.sensors.proofs.Procedure.new.Tie as tie
 
 returns : tie.Need-returns
-unfolding newProcedure
+unfolding new_procedure
 returns c = refl
 
 pub new_spec : {M : Type 1} → statement M

@@ -8,5 +8,5 @@ returns : tie.Need-returns
 unfolding restarted
 returns c = simp (← c.before.coefficients.ensures, ← c.new.ensures)
 
-pub restart-spec : {M : Type 1} → statement M
-restart-spec = tie.close (tie.spec (λ c κs. search rules) (λ c κs. search rules) returns)
+pub restart_spec : {M : Type 1} → statement M
+restart_spec = tie.close (tie.spec (λ c κs. search rules) (λ c κs. search rules) returns)

@@ -12,8 +12,8 @@ invariant-loop bytes crc₀ i₀ i-end crc i = (i-end ≡ length bytes) × (i �
 abbrev decreases-loop : tie.decreases-loop
 decreases-loop bytes crc₀ i₀ i-end crc i = length bytes - i
 
-pub crc16-spec : {M : Type 1} → statement M
-crc16-spec =
+pub crc16_spec : {M : Type 1} → statement M
+crc16_spec =
     tie.close
     (tie.spec
     invariant-loop

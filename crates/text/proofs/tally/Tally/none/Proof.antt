@@ -1,11 +1,11 @@
 -- Assumes nothing.
 use borrow.Author.Rules.{rules}
-use Rattle.text.specs.Tally.{noneTallied}
+use Rattle.text.specs.Tally.{none_tallied}
 use Rattle.text.proofs.tally.Tally.none.Statement.{statement}
 use Rattle.text.proofs.tally.Tally.none.Tie as tie
 
 returns : tie.Need-returns
-unfolding noneTallied
+unfolding none_tallied
 returns c = search rules
 
 pub none_spec : {M : Type 1} → statement M

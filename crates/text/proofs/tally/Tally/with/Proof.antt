@@ -12,5 +12,5 @@ returns-2 : tie.Need-returns-2
 unfolding tallied
 returns-2 c = simp (← c.before.before.one_more.ensures, c.before.if1.false, ← c.one-more2.ensures)
 
-pub with-spec : {M : Type 1} → statement M
-with-spec = tie.close (tie.spec (λ c κs. search rules) returns (λ c κs. search rules) returns-2)
+pub with_spec : {M : Type 1} → statement M
+with_spec = tie.close (tie.spec (λ c κs. search rules) returns (λ c κs. search rules) returns-2)
