@@ -1,4 +1,7 @@
 // What a frame asks for: whether a number refuses it, its plan, and the sensor that it names.
+
+#![tactic(auto)]
+
 ghost use Rattle.std.specs.Prelude.{◌≡◌, ◌-◌, ◌<◌, ◌≤◌};
 ghost use Rattle.admission.specs.Steps.{number_by, owner_of, judged_of};
 
@@ -7,7 +10,7 @@ use plans::Plan;
 use refusals::numbers;
 
 // What a frame asks for, with its header.
-#[derive(Drop)]
+#[derive(Clone, Copy)]
 pub struct Judged {
     pub header: Header,
     pub plan: Plan,

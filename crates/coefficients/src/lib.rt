@@ -1,11 +1,14 @@
 // The coefficients of a sensor, the limits that an update has to keep, and a calibration: coefficients and their time.
+
+#![tactic(auto)]
+
 ghost use Rattle.std.specs.Prelude.{◌≡◌};
 ghost use Rattle.floats.specs.Floats.{within as within_of};
 ghost use Rattle.coefficients.specs.Coefficients.{all_finite, same_coefficients, same_calibration, calibration_of, coefficients_of, defaults_of, in_limits};
 
 // Document 01: figures 1, 2 and 3.
 #[repr(C)]
-#[derive(Drop)]
+#[derive(Clone, Copy)]
 pub struct Coefficients {
     pub coefficient1: f32,
     pub coefficient2: f32,
@@ -14,7 +17,7 @@ pub struct Coefficients {
 
 // Coefficients with the time of their calibration. Document 01: figures in force with last calibration.
 #[repr(C)]
-#[derive(Drop)]
+#[derive(Clone, Copy)]
 pub struct Calibration {
     pub coefficient1: f32,
     pub coefficient2: f32,

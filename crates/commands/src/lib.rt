@@ -1,5 +1,8 @@
 // The commands of a calibration, and what a write answers: refused by a code, the setup that a failed update leaves, the new setup, for an accepted
 // update the new setup and the entry to append, or the device's new technician number.
+
+#![tactic(auto)]
+
 ghost use Rattle.std.specs.Prelude.{◌≡◌};
 ghost use Rattle.commands.specs.Commands.{context_of, updated, commanded, code_of, setup_after, technician_after};
 
@@ -10,7 +13,7 @@ use registers::Device;
 use sensors::Setup;
 
 // What an update takes from outside the sensor's setup: the time, whether the journal has room for an entry, and the technician's number.
-#[derive(Drop)]
+#[derive(Clone, Copy)]
 pub struct Context {
     pub clock: u32,
     pub spare: bool,
@@ -28,7 +31,7 @@ pub fn context_of(device: Device) -> Context
     }
 }
 
-#[derive(Drop)]
+#[derive(Clone, Copy)]
 pub enum Written {
     Refused(u8),
     // An update that is refused for its limits alone (0x97), with its candidate in the trial coefficients.

@@ -1,5 +1,8 @@
 // The library's answers to dialogues compared with those of tests/dialogues/reference.py, which writes them. What the program prints is held
 // to its file stdout.
+
+#![tactic(auto)]
+
 mod play; // lines of calls and answers
 mod scene; // the sonde of a dialogue
 

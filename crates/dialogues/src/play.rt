@@ -9,7 +9,7 @@ use text::tally::Tally;
 const WORDS: usize = 24112;
 
 // A dialogue in play.
-#[derive(Drop)]
+#[derive(Clone, Copy)]
 struct Run {
     scene: Scene,
     tally: Tally,

@@ -13,7 +13,7 @@ use text::character;
 // The sonde, the clock of its frames, how many words its volume has, how many bytes of the reply buffer its frames are lent, and what the
 // last call gave: its number, and the length of a frame's reply, the entries in use of an audit, the words that a salvage changed, or a word
 // of the volume.
-#[derive(Drop)]
+#[derive(Clone, Copy)]
 pub struct Scene {
     pub sonde: Sonde,
     pub clock: u32,

@@ -1,4 +1,7 @@
 // What comes of a frame, from the parts of the sonde that it needs. The frame call is put together in `sonde`.
+
+#![tactic(auto)]
+
 ghost use Rattle.std.specs.Prelude.{◌≡◌, ◌≤◌, length};
 ghost use Rattle.words.specs.Overlay.{overlay};
 ghost use Rattle.words.specs.Bytes.{Bytes};
@@ -20,7 +23,7 @@ use service::Arrival;
 use state::{Counters, Event};
 
 // What comes of a frame: how it counts, the length of its reply, what it changes of the sensors, and the technician's number that it leaves.
-#[derive(Drop)]
+#[derive(Clone, Copy)]
 pub struct Served {
     pub event: Event,
     pub length: u16,

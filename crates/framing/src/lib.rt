@@ -1,5 +1,8 @@
 // Both framings as one: what a frame carries, a body made a frame, and the room that a reply needs. The host says with each frame which
 // framing it has: ASCII, or RTU. Above, number 3 and the reply's sealing ask for it, through these functions, and nothing else.
+
+#![tactic(auto)]
+
 ghost use Rattle.std.specs.Prelude.{◌≡◌, false, cond, ◌≤◌, length, take};
 ghost use Rattle.words.specs.Overlay.{overlay};
 ghost use Rattle.framing.specs.Framing.{body_of, carried_in, framed_in, room_in};

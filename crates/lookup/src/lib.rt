@@ -1,4 +1,7 @@
 // The search of the table of fields: what registers that adjoin are.
+
+#![tactic(auto)]
+
 ghost use Rattle.std.specs.Prelude.{◌≡◌, ◌+◌, ◌≤◌};
 ghost use Rattle.fields.specs.Fields.{owner_bit, span_of, code_of};
 ghost use Rattle.lookup.specs.Steps.{reach_by};

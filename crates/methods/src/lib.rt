@@ -1,4 +1,7 @@
 // The methods of calibration, and the verdict on an update by one of them.
+
+#![tactic(auto)]
+
 ghost use Rattle.std.specs.Prelude.{◌≡◌};
 ghost use Rattle.methods.specs.Methods.{method_of, method_number, points_of, candidate_of, verdict_of, judged_of, code_of};
 
@@ -7,7 +10,7 @@ use refusals::codes;
 
 // What a technician notes at a point: x is the sensor's reading, y the standard's value.
 #[repr(C)]
-#[derive(Drop)]
+#[derive(Clone, Copy)]
 pub struct Points {
     pub x1: f32,
     pub y1: f32,
@@ -16,7 +19,7 @@ pub struct Points {
 }
 
 // Direct carries the three trial coefficients, one point x1 and y1, two points x1, y1, x2 and y2.
-#[derive(Drop)]
+#[derive(Clone, Copy)]
 pub enum Method {
     Direct(f32, f32, f32),
     OnePoint(f32, f32),
@@ -24,7 +27,7 @@ pub enum Method {
 }
 
 // What a method gives before it is judged.
-#[derive(Drop)]
+#[derive(Clone, Copy)]
 pub enum Candidate {
     Made(Coefficients),
     // One point with x1 equal to 0.
@@ -34,7 +37,7 @@ pub enum Candidate {
 }
 
 // An update is accepted with its coefficients, or refused for one of three reasons.
-#[derive(Drop)]
+#[derive(Clone, Copy)]
 pub enum Verdict {
     Accepted(Coefficients),
     OutsideLimits(Coefficients),

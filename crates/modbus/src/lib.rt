@@ -1,18 +1,21 @@
 // What a body of bytes asks for: functions 3, 6, 16 and 22. Nothing here knows which registers exist or what they mean.
+
+#![tactic(auto)]
+
 ghost use Rattle.std.specs.Prelude.{◌≡◌, get_or};
 ghost use Rattle.modbus.specs.Request.{header_of, request_of, read_of, write_one_of, write_many_of, write_mask_of, code_of};
 
 use refusals::codes;
 
 // The first two bytes of a body.
-#[derive(Drop)]
+#[derive(Clone, Copy)]
 pub struct Header {
     pub address: u8,
     pub function: u8,
 }
 
 // What a write gives its registers.
-#[derive(Drop)]
+#[derive(Clone, Copy)]
 pub enum Value {
     // Functions 6 and 16, the first two words; a second that isn't sent is 0.
     Words { word1: u16, word2: u16 },
@@ -20,7 +23,7 @@ pub enum Value {
     Mask { and_mask: u16, or_mask: u16 },
 }
 
-#[derive(Drop)]
+#[derive(Clone, Copy)]
 pub enum Request {
     // Another function.
     Unsupported,

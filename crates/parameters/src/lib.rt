@@ -1,4 +1,7 @@
 // The parameters that the sensors give: their ids, their units, and the conversion to a unit.
+
+#![tactic(auto)]
+
 ghost use Rattle.std.specs.Prelude.{◌≡◌};
 ghost use Rattle.parameters.specs.Parameters.{count_of, id_of, default_units, units_allowed, available_units, level_allowed, converted};
 

@@ -1,5 +1,8 @@
 // What a body asks of a sonde: its address, then the map of registers. Everything here is judged before any value is looked at, so the
 // control book and the frame call share it.
+
+#![tactic(auto)]
+
 ghost use Rattle.std.specs.Prelude.{◌≡◌};
 ghost use Rattle.plans.specs.Plans.{target_of, read_plan, write_plan, request_plan, plan_of};
 
@@ -8,13 +11,13 @@ use modbus::{Header, Request, Value};
 use refusals::codes;
 
 // The field that a write goes to, or the code that refuses it. Its owner is 0 for the device, or the sensor's number.
-#[derive(Drop)]
+#[derive(Clone, Copy)]
 pub enum Target {
     Unfit(u8),
     Writable { owner: u16, field: Field },
 }
 
-#[derive(Drop)]
+#[derive(Clone, Copy)]
 pub enum Plan {
     // No good frame, whatever it says.
     Bad,

@@ -1,5 +1,8 @@
 // The journal printer: reads a volume from standard input and writes its page, or UNSOUND, to standard output. One byte more than is printed is read, to
 // tell a file that is too long.
+
+#![tactic(auto)]
+
 use libc::{STDIN_FILENO, STDOUT_FILENO};
 
 fn print(bytes: &[u8]) {

@@ -1,4 +1,7 @@
 // The readings of the parameters: value and quality, with the conversion to the units that are set.
+
+#![tactic(auto)]
+
 ghost use Rattle.std.specs.Prelude.{◌≡◌};
 ghost use Rattle.readings.specs.Readings.{height_of, resistivity_of, level_of_id, calibrated_of, pressure_of, level_of, conductivity_value, level_value, value_of, worked_from, graded_reading, reading_of};
 
@@ -6,7 +9,7 @@ use coefficients::Calibration;
 use sensors::{Sample, Sensor, Setup};
 
 // What a parameter shows. Quality: 0 good, 3 not finite, 6 in mode, 7 never measured or not present; at 3 and 7 the value is the sentinel.
-#[derive(Drop)]
+#[derive(Clone, Copy)]
 pub struct Reading {
     pub quality: u16,
     pub value: f32,

@@ -1,4 +1,7 @@
 // The reply to a read: registers of one owner, the device or a sensor.
+
+#![tactic(auto)]
+
 ghost use Rattle.std.specs.Prelude.{◌≡◌, ◌+◌, ◌%◌, ◌≤◌, length};
 ghost use Rattle.words.specs.Overlay.{overlay};
 ghost use Rattle.registers.specs.Registers.{register_of};

@@ -1,4 +1,7 @@
 // What each register shows: the device's and the sensors'.
+
+#![tactic(auto)]
+
 ghost use Rattle.std.specs.Prelude.{◌≡◌, ◌/◌, ◌%◌};
 ghost use Rattle.registers.specs.Registers.{mode_of, shown_coefficients, coefficient_register, point_register, shown_id, reading_register, parameter_register, head_register, sensor_register, device_register};
 
@@ -8,7 +11,7 @@ use readings::Reading;
 use sensors::{Sensor, Setup};
 
 // The values that the device's registers show.
-#[derive(Drop)]
+#[derive(Clone, Copy)]
 pub struct Device {
     pub clock: u32,
     pub good: u16,

@@ -1,4 +1,7 @@
 // The state of one sensor: what frames write and a calibration decides, and what measurements write.
+
+#![tactic(auto)]
+
 ghost use Rattle.std.specs.Prelude.{◌≡◌};
 ghost use Rattle.sensors.specs.Changes.{new_procedure, with_trial, with_parameter, restarted, calibrated_at, measured_of, measured_sensor, sensor_with_setup};
 ghost use Rattle.sensors.specs.Sensors.{parameter_of, fresh_parameter, fresh_parameters, fresh_setup, powered_setup, fresh_sample, fresh_sensor, units_valid, level_valid, valid_procedure, valid_parameter, valid_parameters, valid_setup, valid_sensor};
@@ -9,7 +12,7 @@ use methods::Points;
 
 // A parameter's units and its sentinel, the value that is shown where there is no reading.
 #[repr(C)]
-#[derive(Drop)]
+#[derive(Clone, Copy)]
 pub struct Parameter {
     pub units: u16,
     pub sentinel: f32,
@@ -17,7 +20,7 @@ pub struct Parameter {
 
 // The parameters of a sensor, and the id of the level. Those that the sensor doesn't have stay as when fresh.
 #[repr(C)]
-#[derive(Drop)]
+#[derive(Clone, Copy)]
 pub struct Parameters {
     pub level: u16,
     pub parameter1: Parameter,
@@ -27,7 +30,7 @@ pub struct Parameters {
 
 // A calibration in progress. Document 01: mode on is `calibrating`, trial figures are `trial`.
 #[repr(C)]
-#[derive(Drop)]
+#[derive(Clone, Copy)]
 pub struct Procedure {
     pub calibrating: bool,
     pub trial: Coefficients,
@@ -37,7 +40,7 @@ pub struct Procedure {
 
 // The calibration in force. Document 01: figures in force with the last calibration are `calibration`, next calibration is `next`.
 #[repr(C)]
-#[derive(Drop)]
+#[derive(Clone, Copy)]
 pub struct Active {
     pub calibration: Calibration,
     pub next: u32,
@@ -45,7 +48,7 @@ pub struct Active {
 
 // What frames write and a calibration decides.
 #[repr(C)]
-#[derive(Drop)]
+#[derive(Clone, Copy)]
 pub struct Setup {
     pub procedure: Procedure,
     pub active: Active,
@@ -54,7 +57,7 @@ pub struct Setup {
 
 // Document 01: raw values, with present or not; not present until measured.
 #[repr(C)]
-#[derive(Drop)]
+#[derive(Clone, Copy)]
 pub struct Sample {
     pub present: bool,
     pub raw1: f32,
@@ -62,7 +65,7 @@ pub struct Sample {
 }
 
 #[repr(C)]
-#[derive(Drop)]
+#[derive(Clone, Copy)]
 pub struct Sensor {
     pub setup: Setup,
     pub sample: Sample,

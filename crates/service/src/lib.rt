@@ -1,8 +1,11 @@
 // What the six calls of document 01 take and hand back. The definitions of the calls are in specs/, their code in the crates above; there is none here.
+
+#![tactic(auto)]
+
 use state::Sonde;
 
 // When and how a frame came: the clock, in whole seconds, and its framing, ASCII or RTU.
-#[derive(Drop)]
+#[derive(Clone, Copy)]
 pub struct Arrival {
     pub clock: u32,
     pub ascii: bool,
@@ -10,7 +13,7 @@ pub struct Arrival {
 
 // What fresh, begin, power-up and measure hand back.
 #[repr(C)]
-#[derive(Drop)]
+#[derive(Clone, Copy)]
 pub struct SondeMade {
     pub number: u8,
     pub sonde: Sonde,
@@ -18,7 +21,7 @@ pub struct SondeMade {
 
 // What a frame hands back; the reply's bytes are in the lent buffer.
 #[repr(C)]
-#[derive(Drop)]
+#[derive(Clone, Copy)]
 pub struct SondeFrame {
     pub number: u8,
     pub length: u16,
@@ -27,7 +30,7 @@ pub struct SondeFrame {
 
 // What an audit hands back: the entries in use.
 #[repr(C)]
-#[derive(Drop)]
+#[derive(Clone, Copy)]
 pub struct SondeAudit {
     pub number: u8,
     pub entries: u16,

@@ -1,5 +1,8 @@
 // The calls for programs in C, as include/sonde.h declares them. A slice is a pointer and a length there. The frame call is put together
 // here: a function in between that takes a sonde and hands it back would cost a copy of it.
+
+#![tactic(auto)]
+
 ghost use Rattle.std.specs.Prelude.{◌≡◌};
 ghost use Rattle.journal.specs.Stores.{append_up_to};
 ghost use Rattle.page.specs.Print.{printed, print_of};

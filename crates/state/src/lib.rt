@@ -1,4 +1,7 @@
 // The state of a sonde: an address, the technician's number, four sensors and the message counters. It goes in and comes back by value.
+
+#![tactic(auto)]
+
 ghost use Rattle.std.specs.Prelude.{◌≡◌};
 ghost use Rattle.journal.specs.Journal.{IsSensor};
 ghost use Rattle.state.specs.Sonde.{incremented, fresh_counters, counted, fresh_sonde, powered_sensor, powered_sonde, address_valid, valid_sonde, measured_at};
@@ -9,7 +12,7 @@ use sensors::{Sample, Sensor, Setup};
 
 // Messages that were good, bad, and refused by a code. Each stops at 65535.
 #[repr(C)]
-#[derive(Drop)]
+#[derive(Clone, Copy)]
 pub struct Counters {
     pub good: u16,
     pub bad: u16,
@@ -18,7 +21,7 @@ pub struct Counters {
 
 // Sensor s is element s - 1. The technician's number is any; 0 means not given.
 #[repr(C)]
-#[derive(Drop)]
+#[derive(Clone, Copy)]
 pub struct Sonde {
     pub address: u8,
     pub technician: u16,
@@ -37,7 +40,7 @@ fn increment(n: u16) -> u16
 }
 
 // How a frame counts. A refused one is also a good one; another's isn't counted.
-#[derive(Drop)]
+#[derive(Clone, Copy)]
 pub enum Event {
     Uncounted,
     Bad,

@@ -1,4 +1,7 @@
 // Text that a program reads: its lines, and the bytes that a line spells.
+
+#![tactic(auto)]
+
 pub mod tally; // comparisons, counted
 
 ghost use Rattle.std.specs.Prelude.{◌≡◌, ◌+◌, ◌-◌, ◌≤◌, length, take, drop};

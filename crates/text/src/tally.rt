@@ -5,7 +5,7 @@ ghost use Rattle.text.specs.Tally.{one_more, none_tallied, tallied};
 use libc::STDOUT_FILENO;
 
 // How many were compared, and how many of them differ. Each stops at the largest u64.
-#[derive(Drop)]
+#[derive(Clone, Copy)]
 pub struct Tally {
     pub compared: u64,
     pub differ: u64,

@@ -1,5 +1,8 @@
 // The library's CRC-16 compared with that of a table: the checksums of published frames, of every byte, and of messages of every length, and the
 // round of every sum. What the program prints is held to its file stdout.
+
+#![tactic(auto)]
+
 mod table; // CRC-16 by a table
 
 ghost use Rattle.std.specs.Prelude.{◌≡◌, length};

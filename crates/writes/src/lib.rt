@@ -1,4 +1,7 @@
 // What a write of one whole field does: to a sensor's setup, or to the device.
+
+#![tactic(auto)]
+
 ghost use Rattle.std.specs.Prelude.{◌≡◌, ◌≤◌};
 ghost use Rattle.writes.specs.Writes.{next_written, method_written, trial_at, point_at, with_sentinel, with_float, float_written, level_written, units_written, parameter_written, field_written, write_of, write_to};
 

@@ -1,0 +1,46 @@
+use mathlib.Core.Path.{◌≡◌, refl, sym, ap, ◌∙◌}
+use Prim.Native.Nat.{ℕ, ◌<◌, ◌-◌, ◌+◌, ◌*◌}
+use native.Mathlib.Omega.{arith}
+use mathlib.Core.List.{List}
+use lib.ListN.{length, drop}
+use lib.Seq.{drop-length}
+use Rattle.rtu.specs.Crc.{crc_from, crc_of}
+use Rattle.rtu.specs.Rounds.{crc_word}
+use Rattle.rtu.proofs.Checksum.{crc_from-step}
+use Rattle.rtu.proofs.Rounds.{crc_from_word}
+use Rattle.rtu.proofs.crc.crc16.Goals as goal
+
+pub loop-i-init : goal.loop-i-init
+unfolding crc_of
+loop-i-init c = (refl, refl, omega arith, refl)
+
+pub loop-i-preserved : goal.loop-i-preserved
+loop-i-preserved c =
+    let at = c.loop-i in
+    let s : List ℕ = c.args.bytes.now in
+    let k : ℕ = 2 * at.i in
+    let h : k + 1 < length s = omega arith in
+    let n : k + 2 ≡ 2 * (at.i + 1) = omega arith in
+    let b = c.shared_slice_known-in-loop-i-2-1.given k in
+    let r = c.round-sum.ensures ∙ ap (crc_word at.sum) c.word.ensures in
+    let w = sym (crc_from_word s at.sum k c.round-sum.result h b.fits r) ∙ at.invariant.3 in
+    (refl, refl, omega arith, sym (ap (λ (m : ℕ). crc_from c.round-sum.result (drop m s)) n) ∙ w)
+
+pub returns-then-n-eq1 : goal.returns-then-n-eq1
+unfolding crc_from
+returns-then-n-eq1 c =
+    let at = c.loop-i in
+    let s : List ℕ = c.args.bytes.now in
+    let h : 2 * at.i < length s = omega arith in
+    let last : length s - 1 ≡ 2 * at.i = omega arith in
+    let e : 2 * at.i + 1 ≡ length s = omega arith in
+    let r = rw last at c.step_byte.ensures in
+    rw (e, drop-length) at (sym (crc_from-step s at.sum (2 * at.i) c.step_byte.result h r) ∙ at.invariant.3)
+
+pub returns : goal.returns
+unfolding crc_from
+returns c =
+    let at = c.loop-i in
+    let s : List ℕ = c.args.bytes.now in
+    let e : 2 * at.i ≡ length s = omega (arith, c.if-n-eq1.false) in
+    rw (e, drop-length) at at.invariant.3
