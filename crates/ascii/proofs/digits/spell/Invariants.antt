@@ -8,7 +8,11 @@ use Rattle.ascii.proofs.Tables.{digit_table}
 use Rattle.ascii.proofs.digits.spell.Given as goal
 
 abbrev pub invariant-loop-k : goal.invariant-loop-k
-invariant-loop-k l = (l.digits ≡ digit_table) × (l.k ≤ l.n) × (length l.buffer ≡ length l.initial.buffer) × (l.buffer ≡ sets l.initial.buffer (2 * l.k + 1) (hex_of (drop l.k (take l.n l.initial.buffer))))
+invariant-loop-k l =
+    (l.digits ≡ digit_table)
+    × (l.k ≤ l.n)
+    × (length l.buffer ≡ length l.initial.buffer)
+    × (l.buffer ≡ sets l.initial.buffer (2 * l.k + 1) (hex_of (drop l.k (take l.n l.initial.buffer))))
 
 abbrev pub decreases-loop-k : goal.decreases-loop-k
 decreases-loop-k l = l.k

@@ -6,4 +6,8 @@ use Rattle.ascii.specs.Ascii.{sum_of}
 use Rattle.ascii.proofs.sum.lrc.Given as goal
 
 abbrev pub invariant-loop-i : goal.invariant-loop-i
-invariant-loop-i l = (l.i-end ≡ length l.bytes) × (l.i ≤ length l.bytes) × (l.sum < 256) × ((l.sum + sum_of (drop l.i l.bytes)) % 256 ≡ sum_of l.bytes % 256)
+invariant-loop-i l =
+    (l.i-end ≡ length l.bytes)
+    × (l.i ≤ length l.bytes)
+    × (l.sum < 256)
+    × ((l.sum + sum_of (drop l.i l.bytes)) % 256 ≡ sum_of l.bytes % 256)

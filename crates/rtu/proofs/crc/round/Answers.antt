@@ -11,6 +11,10 @@ returns c =
     let a = c.args in
     let x : ℕ = bit_xor a.sum a.word in
     elim c.if-x-eq1.branch [
-      | then-x-eq1 w ↦ ap (λ (y : ℕ). rounded y x (bit_and x 3)) w.settled-is ∙ round_odd a.sum a.word c.ranges.sum.fits c.ranges.word.fits w.if-x-eq1.true
-      | else-x-eq1 w ↦ ap (λ (y : ℕ). rounded y x (bit_and x 3)) w.settled-is ∙ round_even a.sum a.word c.ranges.sum.fits c.ranges.word.fits w.if-x-eq1.false
+      | then-x-eq1 w ↦
+          ap (λ (y : ℕ). rounded y x (bit_and x 3)) w.settled-is
+          ∙ round_odd a.sum a.word c.ranges.sum.fits c.ranges.word.fits w.if-x-eq1.true
+      | else-x-eq1 w ↦
+          ap (λ (y : ℕ). rounded y x (bit_and x 3)) w.settled-is
+          ∙ round_even a.sum a.word c.ranges.sum.fits c.ranges.word.fits w.if-x-eq1.false
     ]
