@@ -40,6 +40,7 @@ pub enum Plan {
 }
 
 // The field that is exactly these registers, if it can be written at all.
+#[tactic(auto, unfolding(crate::specs::Plans::target_of))]
 fn target_of(start: u16, count: u16) -> Target
     ensures { result ≡ target_of start count }
 {
@@ -60,6 +61,7 @@ fn target_of(start: u16, count: u16) -> Target
 }
 
 // A read may begin or end inside a field.
+#[tactic(auto, unfolding(crate::specs::Plans::read_plan))]
 fn plan_read(start: u16, count: u16) -> Plan
     ensures { result ≡ read_plan start count }
 {
@@ -71,6 +73,7 @@ fn plan_read(start: u16, count: u16) -> Plan
     }
 }
 
+#[tactic(auto, unfolding(crate::specs::Plans::target_of))]
 fn plan_write(start: u16, count: u16, value: Value) -> Plan
     ensures { result ≡ write_plan value (target_of start count) }
 {
@@ -85,6 +88,7 @@ fn plan_write(start: u16, count: u16, value: Value) -> Plan
 }
 
 // A request, judged on the map.
+#[tactic(auto, unfolding(crate::specs::Plans::read_plan, crate::specs::Plans::target_of))]
 fn plan_request(request: Request) -> Plan
     ensures { result ≡ request_plan request }
 {
@@ -101,6 +105,7 @@ fn plan_request(request: Request) -> Plan
 }
 
 // What a body with this header asks of the sonde with this address.
+#[tactic(auto, unfolding(crate::specs::Plans::plan_of))]
 pub fn plan_of(own: u8, header: Header, body: &[u8]) -> Plan
     ensures { result ≡ plan_of own header body.now }
 {

@@ -30,6 +30,7 @@ pub struct Sonde {
 }
 
 // One more, up to 65535.
+#[tactic(auto, unfolding(crate::specs::Sonde::incremented))]
 fn increment(n: u16) -> u16
     ensures { result ≡ incremented n }
 {
@@ -49,6 +50,7 @@ pub enum Event {
 }
 
 impl Counters {
+    #[tactic(auto, unfolding(crate::specs::Sonde::fresh_counters))]
     pub fn fresh() -> Self
         ensures { result ≡ fresh_counters }
     {
@@ -86,6 +88,7 @@ impl Counters {
 }
 
 // Whether a sonde can have the address.
+#[tactic(auto, unfolding(crate::specs::Sonde::address_valid))]
 pub fn address_valid(address: u8) -> bool
     ensures { result ≡ address_valid address }
 {
@@ -93,6 +96,7 @@ pub fn address_valid(address: u8) -> bool
 }
 
 // A sensor as it is after a power-up: fresh, but for the replayed calibration.
+#[tactic(auto, unfolding(crate::specs::Sonde::powered_sensor))]
 fn powered_sensor(sensor: u16, c: Calibration) -> Sensor
     ensures { result ≡ powered_sensor sensor c }
 {
@@ -103,6 +107,7 @@ fn powered_sensor(sensor: u16, c: Calibration) -> Sensor
 }
 
 impl Sonde {
+    #[tactic(auto, unfolding(crate::specs::Sonde::fresh_sonde))]
     pub fn fresh(address: u8) -> Self
         ensures { result ≡ fresh_sonde address }
     {
@@ -120,6 +125,7 @@ impl Sonde {
     }
 
     // A sonde after a power-up, with the calibrations that replay gives.
+    #[tactic(auto, unfolding(crate::specs::Sonde::powered_sonde))]
     pub fn powered(address: u8, c: Calibrations) -> Self
         ensures { result ≡ powered_sonde address c }
     {
@@ -137,6 +143,7 @@ impl Sonde {
     }
 
     // Document 01: sound.
+    #[tactic(auto, unfolding(crate::specs::Sonde::valid_sonde, crate::specs::Sonde::sensor_at))]
     pub fn is_valid(self) -> bool
         ensures { result ≡ valid_sonde self }
     {
@@ -148,6 +155,7 @@ impl Sonde {
     }
 
     // A measurement of a sensor.
+    #[tactic(auto, unfolding(crate::specs::Sonde::measured_at, crate::specs::Sonde::with_sensor, crate::specs::Sonde::sensor_at))]
     pub fn measure(mut self, sensor: u16, present: bool, raw1: f32, raw2: f32) -> Self
         requires { IsSensor sensor }
         ensures { result ≡ measured_at self sensor present raw1 raw2 }
