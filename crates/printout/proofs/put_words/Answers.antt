@@ -1,0 +1,14 @@
+use borrow.Author.Rules.{rules}
+use Rattle.printout.proofs.Words.{words_again, words_done}
+use Rattle.printout.proofs.put_words.Goals as goal
+
+pub loop-i-preserved : goal.loop-i-preserved
+loop-i-preserved c =
+    let a = c.args in
+    (search rules, search rules, search rules, words_again c.loop-i.words a.bytes.now c.loop-i.i _ _ (search rules) c.word.ensures c.loop-i.invariant.3)
+
+pub returns : goal.returns
+returns c =
+    let l = c.loop-i in
+    let a = c.args in
+    words_done l.words a.bytes.now l.i _ (search rules) l.invariant.3
