@@ -13,6 +13,7 @@ use fields::{Field, Span};
 use refusals::codes;
 
 // The bit of an owner: 0 is the device, 1 to 4 are the sensors.
+#[tactic(auto, unfolding(fields::specs::Fields::owner_bit))]
 fn owner_bit(owner: u16) -> u8
     ensures { result ≡ owner_bit owner }
 {
@@ -27,6 +28,7 @@ fn owner_bit(owner: u16) -> u8
 }
 
 // The offset that isn't known to exist yet: past the field, where the field holds it.
+#[tactic(auto, unfolding(crate::specs::Steps::reach_by))]
 fn reach(f: Field, bit: u8, at: u16) -> u16
     requires { f.offset + f.words ≤ 65535 }
     ensures { result ≡ reach_by f bit at }

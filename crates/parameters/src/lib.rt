@@ -6,6 +6,7 @@ ghost use Rattle.std.specs.Prelude.{◌≡◌};
 ghost use Rattle.parameters.specs.Parameters.{count_of, id_of, default_units, units_allowed, available_units, level_allowed, converted};
 
 // The number of a sensor's parameters.
+#[tactic(auto, unfolding(crate::specs::Parameters::count_of))]
 pub fn count(sensor: u16) -> u16
     ensures { result ≡ count_of sensor }
 {
@@ -19,6 +20,7 @@ pub fn count(sensor: u16) -> u16
 }
 
 // The id of parameter k, the level's as when fresh; 0 where the sensor has no such parameter.
+#[tactic(auto, unfolding(crate::specs::Parameters::id_of))]
 pub fn parameter_id(sensor: u16, k: u16) -> u16
     ensures { result ≡ id_of sensor k }
 {
@@ -47,6 +49,7 @@ pub fn parameter_id(sensor: u16, k: u16) -> u16
 }
 
 // The units that a parameter has when fresh.
+#[tactic(auto, unfolding(crate::specs::Parameters::default_units))]
 pub fn default_units(id: u16) -> u16
     ensures { result ≡ default_units id }
 {
@@ -63,6 +66,7 @@ pub fn default_units(id: u16) -> u16
 }
 
 // Whether the table lists these units for the parameter.
+#[tactic(auto, unfolding(crate::specs::Parameters::units_allowed))]
 pub fn units_allowed(id: u16, units: u16) -> bool
     ensures { result ≡ units_allowed id units }
 {
@@ -79,6 +83,7 @@ pub fn units_allowed(id: u16, units: u16) -> bool
 }
 
 // The word that lists the units.
+#[tactic(auto, unfolding(crate::specs::Parameters::available_units))]
 pub fn available_units(id: u16) -> u16
     ensures { result ≡ available_units id }
 {
@@ -95,6 +100,7 @@ pub fn available_units(id: u16) -> u16
 }
 
 // The ids that the level may have.
+#[tactic(auto, unfolding(crate::specs::Parameters::level_allowed))]
 pub fn level_allowed(id: u16) -> bool
     ensures { result ≡ level_allowed id }
 {
@@ -102,6 +108,7 @@ pub fn level_allowed(id: u16) -> bool
 }
 
 // A value in the units asked for.
+#[tactic(auto, unfolding(crate::specs::Parameters::converted))]
 pub fn convert(units: u16, x: f32) -> f32
     ensures { result ≡ converted units x }
 {

@@ -1,0 +1,16 @@
+-- The tests stand in the order of the definition. Assumes nothing.
+use borrow.Author.Tests.{ne_eqb}
+use Rattle.methods.specs.Methods.{method_of}
+use Rattle.methods.proofs.method_of.Goals as goal
+
+pub returns-in-1 : goal.returns-in-1
+unfolding method_of
+returns-in-1 c = simp c.in-1.is
+
+pub returns-in-2 : goal.returns-in-2
+unfolding method_of
+returns-in-2 c = simp c.in-2.is
+
+pub returns-in_default : goal.returns-in_default
+unfolding method_of
+returns-in_default c = simp (ne_eqb _ _ c.in_default.in_default-own.rest.0.1, ne_eqb _ _ c.in_default.in_default-own.rest.1)
