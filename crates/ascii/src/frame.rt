@@ -20,8 +20,8 @@ fn enclosed(frame: &[u8]) -> bool
 pub fn decode(frame: &[u8], bytes: &mut [u8]) -> usize
     requires { 255 ≤ length bytes.old }
     ensures value { result ≡ length (good_body frame.now) }
-    ensures bytes_after { take result bytes.new ≡ good_body frame.now }
-    ensures bytes_after_2 { bytes.new ≡ decoded_over frame.now bytes.old }
+    ensures body { take result bytes.new ≡ good_body frame.now }
+    ensures bytes_after { bytes.new ≡ decoded_over frame.now bytes.old }
 {
     let n = frame.len();
     if n < 9 {

@@ -8,6 +8,7 @@ ghost use Rattle.words.specs.Digits.{hex_digit};
 ghost use Rattle.columns.specs.Columns.{last, last_or_blank, cells, number, hex};
 
 // The character of a digit.
+#[tactic(auto, unfolding(words::specs::Digits::hex_digit))]
 fn digit(d: u32) -> u8
     requires { d < 16 }
     ensures { result ≡ hex_digit d }
@@ -19,6 +20,7 @@ fn digit(d: u32) -> u8
 }
 
 // The last decimal digit of a number.
+#[tactic(auto, unfolding(crate::specs::Columns::last))]
 pub fn last_digit(n: u32) -> u8
     ensures { result ≡ last 10 n }
 {
@@ -26,6 +28,7 @@ pub fn last_digit(n: u32) -> u8
 }
 
 // The same, and a blank for 0.
+#[tactic(auto, unfolding(crate::specs::Columns::last_or_blank))]
 fn last_or_blank(n: u32) -> u8
     ensures { result ≡ last_or_blank 10 n }
 {

@@ -79,6 +79,7 @@ pub fn technician_after(w: Written, technician: u16) -> u16
 }
 
 // Command 0xE001.
+#[tactic(auto, unfolding(crate::specs::Commands::updated))]
 fn update(sensor: u16, s: Setup, context: Context) -> Written
     ensures { result ≡ updated sensor s context }
 {
@@ -106,6 +107,7 @@ fn update(sensor: u16, s: Setup, context: Context) -> Written
 }
 
 // The command register.
+#[tactic(auto, unfolding(crate::specs::Commands::commanded))]
 pub fn command(sensor: u16, s: Setup, value: u16, context: Context) -> Written
     ensures { result ≡ commanded sensor s value context }
 {

@@ -9,6 +9,7 @@ ghost use Rattle.framing.specs.Framing.{body_of, carried_in, framed_in, room_in}
 ghost use Rattle.framing.specs.Steps.{decoded_in, decoded_into};
 
 // The bytes that a reply's buffer must have.
+#[tactic(auto, unfolding(crate::specs::Framing::room_in))]
 pub fn room(ascii: bool) -> usize
     ensures { result ≡ room_in ascii }
 {
@@ -23,8 +24,8 @@ pub fn room(ascii: bool) -> usize
 pub fn decode(ascii: bool, frame: &[u8], bytes: &mut [u8]) -> usize
     requires { 255 ≤ length bytes.old }
     ensures value { result ≡ length (decoded_in ascii frame.now) }
-    ensures bytes_after { take result bytes.new ≡ decoded_in ascii frame.now }
-    ensures bytes_after_2 { bytes.new ≡ decoded_into ascii frame.now bytes.old }
+    ensures body { take result bytes.new ≡ decoded_in ascii frame.now }
+    ensures bytes_after { bytes.new ≡ decoded_into ascii frame.now bytes.old }
 {
     if ascii {
         return ascii::frame::decode(frame, bytes);
@@ -33,6 +34,7 @@ pub fn decode(ascii: bool, frame: &[u8], bytes: &mut [u8]) -> usize
 }
 
 // The body that an RTU frame carries; no bytes where it is bad.
+#[tactic(auto, unfolding(crate::specs::Framing::carried_in))]
 fn rtu_body(frame: &[u8]) -> &[u8]
     ensures { result.now ≡ body_of (carried_in false frame.now) }
 {

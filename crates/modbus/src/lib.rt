@@ -61,6 +61,7 @@ pub fn header_of(body: &[u8]) -> Header
 }
 
 // What a body with this function asks for.
+#[tactic(auto, unfolding(crate::specs::Request::request_of))]
 pub fn decode_request(function: u8, body: &[u8]) -> Request
     ensures { result ≡ request_of function body.now }
 {
@@ -74,6 +75,7 @@ pub fn decode_request(function: u8, body: &[u8]) -> Request
 }
 
 // Function 3: start and count.
+#[tactic(auto, unfolding(crate::specs::Request::read_of))]
 fn decode_read(body: &[u8]) -> Request
     ensures { result ≡ read_of body.now }
 {
@@ -92,6 +94,7 @@ fn decode_read(body: &[u8]) -> Request
 }
 
 // Function 6: register and value.
+#[tactic(auto, unfolding(crate::specs::Request::write_one_of))]
 fn decode_write_one(body: &[u8]) -> Request
     ensures { result ≡ write_one_of body.now }
 {
@@ -108,6 +111,7 @@ fn decode_write_one(body: &[u8]) -> Request
 }
 
 // Function 16: start, count, byte count and the values.
+#[tactic(auto, unfolding(crate::specs::Request::write_many_of))]
 fn decode_write_many(body: &[u8]) -> Request
     ensures { result ≡ write_many_of body.now }
 {
@@ -147,6 +151,7 @@ fn decode_write_many(body: &[u8]) -> Request
 }
 
 // Function 22: register, and-mask, or-mask.
+#[tactic(auto, unfolding(crate::specs::Request::write_mask_of))]
 fn decode_write_mask(body: &[u8]) -> Request
     ensures { result ≡ write_mask_of body.now }
 {

@@ -16,6 +16,7 @@ pub struct Reading {
 }
 
 // Sensors 1, 2 and 4: the first raw, calibrated; in mode the raw itself.
+#[tactic(auto, unfolding(crate::specs::Readings::calibrated_of))]
 pub fn calibrated(setup: Setup, raw: f32) -> f32
     ensures { result ≡ calibrated_of setup raw }
 {
@@ -44,6 +45,7 @@ fn height(p: f32) -> f32
 }
 
 // The level by its id, out of mode: 3 depth, 4 drawdown, 5 elevation.
+#[tactic(auto, unfolding(crate::specs::Readings::level_of_id))]
 fn level_of_id(id: u16, pressure: f32, c: Calibration) -> f32
     ensures { result ≡ level_of_id id pressure c }
 {
@@ -55,6 +57,7 @@ fn level_of_id(id: u16, pressure: f32, c: Calibration) -> f32
 }
 
 // The pressure with the offset taken off; in mode the raw itself.
+#[tactic(auto, unfolding(crate::specs::Readings::pressure_of))]
 pub fn pressure(setup: Setup, raw: f32) -> f32
     ensures { result ≡ pressure_of setup raw }
 {
@@ -67,6 +70,7 @@ pub fn pressure(setup: Setup, raw: f32) -> f32
 }
 
 // The level; in mode the height of the pressure with the offset taken off.
+#[tactic(auto, unfolding(crate::specs::Readings::level_of))]
 pub fn level(setup: Setup, raw: f32) -> f32
     ensures { result ≡ level_of setup raw }
 {
@@ -80,6 +84,7 @@ pub fn level(setup: Setup, raw: f32) -> f32
 }
 
 // Sensor 1: temperature, conductivity, resistivity.
+#[tactic(auto, unfolding(crate::specs::Readings::conductivity_value))]
 fn conductivity_value(setup: Setup, sample: Sample, k: u16) -> f32
     ensures { result ≡ conductivity_value setup sample k }
 {
@@ -91,6 +96,7 @@ fn conductivity_value(setup: Setup, sample: Sample, k: u16) -> f32
 }
 
 // Sensor 3: pressure, level.
+#[tactic(auto, unfolding(crate::specs::Readings::level_value))]
 fn level_value(setup: Setup, sample: Sample, k: u16) -> f32
     ensures { result ≡ level_value setup sample k }
 {
@@ -101,6 +107,7 @@ fn level_value(setup: Setup, sample: Sample, k: u16) -> f32
 }
 
 // The value of parameter k before its conversion.
+#[tactic(auto, unfolding(crate::specs::Readings::value_of))]
 pub fn value(sensor: u16, setup: Setup, sample: Sample, k: u16) -> f32
     ensures { result ≡ value_of sensor setup sample k }
 {
@@ -112,6 +119,7 @@ pub fn value(sensor: u16, setup: Setup, sample: Sample, k: u16) -> f32
 }
 
 // The parameter that parameter k is worked from, itself where there is none.
+#[tactic(auto, unfolding(crate::specs::Readings::worked_from))]
 fn worked_from(sensor: u16, k: u16) -> u16
     ensures { result ≡ worked_from sensor k }
 {
@@ -125,6 +133,7 @@ fn worked_from(sensor: u16, k: u16) -> u16
 }
 
 // Quality and value: not present before not finite before in mode.
+#[tactic(auto, unfolding(crate::specs::Readings::graded_reading))]
 fn graded(present: bool, good: bool, calibrating: bool, shown: f32, sentinel: f32) -> Reading
     ensures { result ≡ graded_reading present good calibrating shown sentinel }
 {
@@ -153,6 +162,7 @@ fn graded(present: bool, good: bool, calibrating: bool, shown: f32, sentinel: f3
 }
 
 // The reading of parameter k of a sensor.
+#[tactic(auto, unfolding(crate::specs::Readings::reading_of))]
 pub fn reading_of(sensor: u16, s: Sensor, k: u16) -> Reading
     ensures { result ≡ reading_of sensor s k }
 {

@@ -37,6 +37,7 @@ fn low(n: u32) -> u16
 }
 
 // The command register reads 1 in mode, else 0.
+#[tactic(auto, unfolding(crate::specs::Registers::mode_of))]
 fn mode(setup: Setup) -> u16
     ensures { result ≡ mode_of setup }
 {
@@ -48,6 +49,7 @@ fn mode(setup: Setup) -> u16
 }
 
 // The coefficients that are shown: the trial ones in mode, else the active ones.
+#[tactic(auto, unfolding(crate::specs::Registers::shown_coefficients))]
 fn shown_coefficients(setup: Setup) -> Coefficients
     ensures { result ≡ shown_coefficients setup }
 {
@@ -62,6 +64,7 @@ fn shown_coefficients(setup: Setup) -> Coefficients
 }
 
 // Offsets 10 to 15.
+#[tactic(auto, unfolding(crate::specs::Registers::coefficient_register))]
 fn coefficient_register(c: Coefficients, offset: u16) -> u16
     ensures { result ≡ coefficient_register c offset }
 {
@@ -77,6 +80,7 @@ fn coefficient_register(c: Coefficients, offset: u16) -> u16
 }
 
 // Offsets 16 to 23.
+#[tactic(auto, unfolding(crate::specs::Registers::point_register))]
 fn point_register(p: Points, offset: u16) -> u16
     ensures { result ≡ point_register p offset }
 {
@@ -94,6 +98,7 @@ fn point_register(p: Points, offset: u16) -> u16
 }
 
 // The id of parameter k; the level's is the one that is set.
+#[tactic(auto, unfolding(crate::specs::Registers::shown_id))]
 fn shown_id(sensor: u16, setup: Setup, k: u16) -> u16
     ensures { result ≡ shown_id sensor setup k }
 {
@@ -104,6 +109,7 @@ fn shown_id(sensor: u16, setup: Setup, k: u16) -> u16
 }
 
 // The registers of a reading: 0 and 1 the value, 4 the quality.
+#[tactic(auto, unfolding(crate::specs::Registers::reading_register))]
 fn reading_register(r: Reading, part: u16) -> u16
     ensures { result ≡ reading_register r part }
 {
@@ -115,6 +121,7 @@ fn reading_register(r: Reading, part: u16) -> u16
 }
 
 // One of the eight registers of parameter k. The reading is worked out for its own registers alone.
+#[tactic(auto, unfolding(crate::specs::Registers::parameter_register))]
 fn parameter_register(sensor: u16, s: Sensor, k: u16, part: u16) -> u16
     ensures { result ≡ parameter_register sensor s k part }
 {
@@ -132,6 +139,7 @@ fn parameter_register(sensor: u16, s: Sensor, k: u16, part: u16) -> u16
 }
 
 // Offsets 0 to 9.
+#[tactic(auto, unfolding(crate::specs::Registers::head_register))]
 fn head_register(sensor: u16, setup: Setup, offset: u16) -> u16
     ensures { result ≡ head_register sensor setup offset }
 {
@@ -151,6 +159,7 @@ fn head_register(sensor: u16, setup: Setup, offset: u16) -> u16
 }
 
 // A register of a sensor, by its offset; 0 where the map has none.
+#[tactic(auto, unfolding(crate::specs::Registers::sensor_register))]
 pub fn sensor_register(sensor: u16, s: Sensor, offset: u16) -> u16
     ensures { result ≡ sensor_register sensor s offset }
 {
@@ -165,6 +174,7 @@ pub fn sensor_register(sensor: u16, s: Sensor, offset: u16) -> u16
 }
 
 // A register of the device; 0 where the map has none.
+#[tactic(auto, unfolding(crate::specs::Registers::device_register))]
 pub fn device_register(d: Device, offset: u16) -> u16
     ensures { result ≡ device_register d offset }
 {

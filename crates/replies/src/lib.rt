@@ -59,6 +59,7 @@ pub fn put_written(reply: &mut [u8], function: u8, body: &[u8]) -> usize
 }
 
 // A function's number in an exception reply.
+#[tactic(auto, unfolding(crate::specs::Reply::marked_of))]
 fn marked(function: u8) -> u8
     ensures { result ≡ marked_of function }
 {

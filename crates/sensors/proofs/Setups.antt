@@ -15,7 +15,6 @@ use Rattle.coefficients.specs.declared.Coefficients.{Coefficients}
 use Rattle.coefficients.specs.declared.Calibration.{Calibration}
 use Rattle.coefficients.proofs.Bits.{CoefficientsFit}
 use Rattle.coefficients.proofs.Limits.{limits_finite, sensor_cases, defaults_in_limits, defaults_fit}
-use Rattle.methods.specs.Methods.{points}
 use Rattle.methods.proofs.Candidates.{PointsFit}
 use Rattle.entries.specs.Entries.{method_allowed, points_finite, valid_calibration}
 use Rattle.parameters.specs.Parameters.{id_of, default_units, units_allowed, level_allowed}

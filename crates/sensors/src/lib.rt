@@ -73,6 +73,7 @@ pub struct Sensor {
 
 impl Parameter {
     // Parameter k of a sensor as it is when fresh; where there is none, units 0.
+    #[tactic(auto, unfolding(crate::specs::Sensors::fresh_parameter))]
     pub fn fresh(sensor: u16, k: u16) -> Self
         ensures { result ≡ fresh_parameter sensor k }
     {
@@ -84,6 +85,7 @@ impl Parameter {
     }
 
     // Units that are listed and a finite sentinel.
+    #[tactic(auto, unfolding(crate::specs::Sensors::valid_parameter))]
     fn is_valid(self, sensor: u16, k: u16) -> bool
         ensures { result ≡ valid_parameter sensor k self }
     {
@@ -92,6 +94,7 @@ impl Parameter {
 }
 
 impl Parameters {
+    #[tactic(auto, unfolding(crate::specs::Sensors::fresh_parameters))]
     pub fn fresh(sensor: u16) -> Self
         ensures { result ≡ fresh_parameters sensor }
     {
@@ -104,6 +107,7 @@ impl Parameters {
     }
 
     // Parameter 1, 2 or 3.
+    #[tactic(auto, unfolding(crate::specs::Sensors::parameter_of))]
     pub fn parameter(self, k: u16) -> Parameter
         ensures { result ≡ parameter_of self k }
     {
@@ -115,6 +119,7 @@ impl Parameters {
     }
 
     // Parameter 1, 2 or 3 replaced.
+    #[tactic(auto, unfolding(crate::specs::Changes::with_parameter))]
     pub fn with_parameter(mut self, k: u16, p: Parameter) -> Self
         ensures { result ≡ with_parameter self k p }
     {
@@ -126,6 +131,7 @@ impl Parameters {
         self
     }
 
+    #[tactic(auto, unfolding(crate::specs::Sensors::valid_parameters))]
     fn is_valid(self, sensor: u16) -> bool
         ensures { result ≡ valid_parameters sensor self }
     {
@@ -141,6 +147,7 @@ impl Parameters {
 
 impl Procedure {
     // As a calibration begins and ends: trial coefficients c, method 0 and points +0.0.
+    #[tactic(auto, unfolding(crate::specs::Changes::new_procedure))]
     pub fn new(calibrating: bool, c: Coefficients) -> Self
         ensures { result ≡ new_procedure calibrating c }
     {
@@ -157,6 +164,7 @@ impl Procedure {
         }
     }
 
+    #[tactic(auto, unfolding(crate::specs::Sensors::valid_procedure))]
     fn is_valid(self, sensor: u16) -> bool
         ensures { result ≡ valid_procedure sensor self }
     {
@@ -166,6 +174,7 @@ impl Procedure {
 }
 
 impl Setup {
+    #[tactic(auto, unfolding(crate::specs::Sensors::fresh_setup))]
     pub fn fresh(sensor: u16) -> Self
         ensures { result ≡ fresh_setup sensor }
     {
@@ -181,6 +190,7 @@ impl Setup {
     }
 
     // As after a power-up: the replayed calibration, all else as when fresh.
+    #[tactic(auto, unfolding(crate::specs::Sensors::powered_setup))]
     pub fn powered(sensor: u16, c: Calibration) -> Self
         ensures { result ≡ powered_setup sensor c }
     {
@@ -195,6 +205,7 @@ impl Setup {
     }
 
     // Document 01: what a sound sonde asks of one sensor, its raw values left out.
+    #[tactic(auto, unfolding(crate::specs::Sensors::valid_setup))]
     pub fn is_valid(self, sensor: u16) -> bool
         ensures { result ≡ valid_setup sensor self }
     {
@@ -207,6 +218,7 @@ impl Setup {
     }
 
     // Mode on or off; the trial coefficients are those in force again, method 0 and points +0.0.
+    #[tactic(auto, unfolding(crate::specs::Changes::restarted))]
     pub fn restart(mut self, calibrating: bool) -> Self
         ensures { result ≡ restarted self calibrating }
     {
@@ -228,6 +240,7 @@ impl Setup {
     }
 
     // The coefficients come into force and are the trial ones, calibrated at the clock; no next calibration is set.
+    #[tactic(auto, unfolding(crate::specs::Changes::calibrated_at))]
     pub fn calibrate(self, c: Coefficients, clock: u32) -> Self
         ensures { result ≡ calibrated_at self c clock }
     {
@@ -253,6 +266,7 @@ impl Sample {
     }
 
     // A measurement. The second raw is read for sensor 1 only; not present, none is read and the old ones stay.
+    #[tactic(auto, unfolding(crate::specs::Changes::measured_of))]
     pub fn measure(mut self, sensor: u16, present: bool, raw1: f32, raw2: f32) -> Self
         ensures { result ≡ measured_of self sensor present raw1 raw2 }
     {
@@ -269,6 +283,7 @@ impl Sample {
 }
 
 impl Sensor {
+    #[tactic(auto, unfolding(crate::specs::Sensors::fresh_sensor))]
     pub fn fresh(sensor: u16) -> Self
         ensures { result ≡ fresh_sensor sensor }
     {
@@ -278,6 +293,7 @@ impl Sensor {
         }
     }
 
+    #[tactic(auto, unfolding(crate::specs::Sensors::valid_sensor))]
     pub fn is_valid(self, sensor: u16) -> bool
         ensures { result ≡ valid_sensor sensor self }
     {
@@ -287,6 +303,7 @@ impl Sensor {
     }
 
     // A measurement; the setup stays.
+    #[tactic(auto, unfolding(crate::specs::Changes::measured_sensor))]
     pub fn measure(mut self, sensor: u16, present: bool, raw1: f32, raw2: f32) -> Self
         ensures { result ≡ measured_sensor self sensor present raw1 raw2 }
     {
@@ -297,6 +314,7 @@ impl Sensor {
     }
 
     // A new setup; the sample stays.
+    #[tactic(auto, unfolding(crate::specs::Changes::sensor_with_setup))]
     pub fn with_setup(mut self, setup: Setup) -> Self
         ensures { result ≡ sensor_with_setup self setup }
     {
@@ -306,6 +324,7 @@ impl Sensor {
 }
 
 // The units of a parameter that the sensor has are listed; others aren't looked at.
+#[tactic(auto, unfolding(crate::specs::Sensors::units_valid))]
 fn units_valid(sensor: u16, k: u16, units: u16) -> bool
     ensures { result ≡ units_valid sensor k units }
 {
@@ -317,6 +336,7 @@ fn units_valid(sensor: u16, k: u16, units: u16) -> bool
 }
 
 // The level's id is listed; of a sensor without a level it isn't looked at.
+#[tactic(auto, unfolding(crate::specs::Sensors::level_valid))]
 fn level_valid(sensor: u16, level: u16) -> bool
     ensures { result ≡ level_valid sensor level }
 {

@@ -15,6 +15,7 @@ use refusals::codes;
 use sensors::{Parameters, Setup};
 
 // The next calibration's time.
+#[tactic(auto, unfolding(crate::specs::Writes::next_written))]
 fn write_next(mut s: Setup, high: u16, low: u16) -> Written
     ensures { result ≡ next_written s high low }
 {
@@ -23,6 +24,7 @@ fn write_next(mut s: Setup, high: u16, low: u16) -> Written
     Written::Stored(s)
 }
 
+#[tactic(auto, unfolding(crate::specs::Writes::method_written))]
 fn write_method(sensor: u16, mut s: Setup, value: u16) -> Written
     ensures { result ≡ method_written sensor s value }
 {
@@ -34,6 +36,7 @@ fn write_method(sensor: u16, mut s: Setup, value: u16) -> Written
 }
 
 // The trial coefficients with the one at this offset replaced.
+#[tactic(auto, unfolding(crate::specs::Writes::trial_at))]
 fn trial_at(mut c: Coefficients, offset: u16, x: f32) -> Coefficients
     ensures { result ≡ trial_at c offset x }
 {
@@ -46,6 +49,7 @@ fn trial_at(mut c: Coefficients, offset: u16, x: f32) -> Coefficients
 }
 
 // The points with the value at this offset replaced.
+#[tactic(auto, unfolding(crate::specs::Writes::point_at))]
 fn point_at(mut p: Points, offset: u16, x: f32) -> Points
     ensures { result ≡ point_at p offset x }
 {
@@ -59,6 +63,7 @@ fn point_at(mut p: Points, offset: u16, x: f32) -> Points
 }
 
 // The parameters with the sentinel of parameter k replaced.
+#[tactic(auto, unfolding(crate::specs::Writes::with_sentinel))]
 fn with_sentinel(q: Parameters, k: u16, x: f32) -> Parameters
     ensures { result ≡ with_sentinel q k x }
 {
@@ -68,6 +73,7 @@ fn with_sentinel(q: Parameters, k: u16, x: f32) -> Parameters
 }
 
 // The setup with the float at this offset replaced: a trial coefficient, a value of the points, or a sentinel.
+#[tactic(auto, unfolding(crate::specs::Writes::with_float))]
 fn with_float(mut s: Setup, offset: u16, x: f32) -> Setup
     ensures { result ≡ with_float s offset x }
 {
@@ -86,6 +92,7 @@ fn with_float(mut s: Setup, offset: u16, x: f32) -> Setup
     s
 }
 
+#[tactic(auto, unfolding(crate::specs::Writes::float_written))]
 fn write_float(s: Setup, offset: u16, high: u16, low: u16) -> Written
     ensures { result ≡ float_written s offset high low }
 {
@@ -97,6 +104,7 @@ fn write_float(s: Setup, offset: u16, high: u16, low: u16) -> Written
 }
 
 // The id of the level.
+#[tactic(auto, unfolding(crate::specs::Writes::level_written))]
 fn write_level(mut s: Setup, value: u16) -> Written
     ensures { result ≡ level_written s value }
 {
@@ -107,6 +115,7 @@ fn write_level(mut s: Setup, value: u16) -> Written
     Written::Stored(s)
 }
 
+#[tactic(auto, unfolding(crate::specs::Writes::units_written))]
 fn write_units(sensor: u16, mut s: Setup, k: u16, value: u16) -> Written
     ensures { result ≡ units_written sensor s k value }
 {
@@ -123,6 +132,7 @@ fn write_units(sensor: u16, mut s: Setup, k: u16, value: u16) -> Written
 }
 
 // A register of a parameter. No field that can be written is at a part other than 2, 3 and 5.
+#[tactic(auto, unfolding(crate::specs::Writes::parameter_written))]
 fn write_parameter(sensor: u16, s: Setup, offset: u16, high: u16, low: u16) -> Written
     requires { 30 ≤ offset }
     ensures { result ≡ parameter_written sensor s offset high low }
@@ -137,6 +147,7 @@ fn write_parameter(sensor: u16, s: Setup, offset: u16, high: u16, low: u16) -> W
 }
 
 // The field at this offset, once the mode allows the write. No field that can be written is at an offset outside these ranges.
+#[tactic(auto, unfolding(crate::specs::Writes::field_written))]
 fn write_field(sensor: u16, s: Setup, offset: u16, high: u16, low: u16, context: Context) -> Written
     ensures { result ≡ field_written sensor s offset high low context }
 {
@@ -151,6 +162,7 @@ fn write_field(sensor: u16, s: Setup, offset: u16, high: u16, low: u16, context:
 }
 
 // The write of a sensor's field that isn't read-only, its value in one word (`high`) or in two.
+#[tactic(auto, unfolding(crate::specs::Writes::write_of))]
 fn write_sensor(
     sensor: u16,
     s: Setup,
@@ -169,6 +181,7 @@ fn write_sensor(
 }
 
 // The write of an owner's field that isn't read-only: the device's one is the technician's number, which any word is; else a sensor's.
+#[tactic(auto, unfolding(crate::specs::Writes::write_to, crate::specs::Writes::device_written))]
 pub fn write(owner: u16, s: Setup, field: Field, high: u16, low: u16, context: Context) -> Written
     ensures { result ≡ write_to owner s field high low context }
 {

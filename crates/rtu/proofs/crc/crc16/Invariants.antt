@@ -1,6 +1,6 @@
 -- From where the loop stands, the bytes that are left lead to the whole's CRC. Assumes nothing.
 use mathlib.Core.Path.{◌≡◌}
-use Prim.Native.Nat.{◌≤◌, ◌-◌, ◌*◌, ◌/◌}
+use Prim.Native.Nat.{◌≤◌, ◌*◌, ◌/◌}
 use lib.ListN.{length, drop}
 use Rattle.rtu.specs.Crc.{crc_from, crc_of}
 use Rattle.rtu.proofs.crc.crc16.Given as goal

@@ -19,4 +19,7 @@ pub returns : goal.returns
 unfolding checksum_of
 returns c =
     let a = c.args in
-    (search rules, rw (c.low.ensures, c.high.ensures, c.crc16-crc.ensures, add-one) (checksum_stored a.buffer.now a.n (search rules)))
+    record {
+      value = search rules;
+      buffer_after = rw (c.low.ensures, c.high.ensures, c.crc16-crc.ensures, add-one) (checksum_stored a.buffer.now a.n (search rules));
+    }
