@@ -7,7 +7,7 @@
  * Calls on different sondes and volumes may run at the same time.
  *
  * Link with libsonde.a: `cc host.c $(pkg-config --cflags --libs sonde)` once `./install` has put it in place, or target/staticlib/libsonde.a, which
- * `rt staticlib sonde` writes.
+ * `tests/library` writes.
  *
  *     uint16_t volume[24064];
  *     uint8_t reply[SONDE_REPLY_BYTES];                 ASCII: SONDE_ASCII_REPLY_BYTES, and true in the place of false below

@@ -3,7 +3,7 @@
 use std::env;
 use std::path::{Path, PathBuf};
 
-/// `rt staticlib sonde`, run at the top of the repository, writes the library here.
+/// `tests/library` of the repository writes the library here.
 fn own() -> PathBuf {
     Path::new(env!("CARGO_MANIFEST_DIR")).join("../../target/staticlib")
 }
@@ -16,7 +16,7 @@ fn main() {
     println!("cargo:rerun-if-changed={}", library.display());
     if !library.exists() {
         eprintln!(
-            "{} is missing: run `rt staticlib sonde` at the top of the repository, or set SONDE_LIB_DIR to the folder of an installed libsonde.a",
+            "{} is missing: run `tests/library` at the top of the repository, or set SONDE_LIB_DIR to the folder of an installed libsonde.a",
             library.display()
         );
         std::process::exit(1);

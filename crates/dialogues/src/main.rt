@@ -6,14 +6,13 @@
 mod play; // lines of calls and answers
 mod scene; // the sonde of a dialogue
 
-use libc::STDIN_FILENO;
+use std::io;
+use std::io::Read;
 
-fn main() {
-    let mut space = [0u8; 196608];
-    let n = io::read_full(STDIN_FILENO, &mut space);
-    if n == 196608 {
-        text::print_cut_off();
-        return;
+fn main(rt: HostRuntime) -> io::Result<()> {
+    let mut input = Vec::new(rt.alloc());
+    if rt.reader().take(196608).read_to_end(&mut input)? == 196608 {
+        return text::print_cut_off(&rt);
     }
-    play::play_all(&space[..n]).print(b" dialogues, ");
+    play::play_all(&rt, input.as_slice())?.print(&rt, " dialogues, ")
 }

@@ -1,7 +1,7 @@
 // Dialogues, played through the calls and compared with the answers that stand in them. tests/dialogues/reference.py says what their
 // lines mean.
 use crate::scene::Scene;
-use libc::STDOUT_FILENO;
+use std::io;
 use text::tally;
 use text::tally::Tally;
 
@@ -15,45 +15,51 @@ struct Run {
     tally: Tally,
 }
 
-fn print_byte(byte: u8) {
-    io::write_all(STDOUT_FILENO, b" ");
-    io::print_hex(STDOUT_FILENO, byte as u64, 2);
-}
-
-fn print_bytes(bytes: &[u8]) {
-    for i in 0..bytes.len() {
-        print_byte(bytes[i]);
+fn print_bytes(rt: &impl Print, bytes: &[u8]) -> io::Result<()> {
+    for byte in bytes {
+        print!(rt; " {byte:02x}")?;
     }
+    Ok(())
 }
 
 // An answer that differs: the line, the number, the reply's length or the entries in use, and so many bytes of the reply.
-fn print_difference(line: &[u8], scene: Scene, reply: &[u8]) {
-    tally::print_verdict(false);
-    io::write_all(STDOUT_FILENO, line);
-    io::write_all(STDOUT_FILENO, b"\n    for ");
-    io::print_hex(STDOUT_FILENO, scene.number as u64, 2);
-    io::write_all(STDOUT_FILENO, b" ");
-    io::print_hex(STDOUT_FILENO, scene.count as u64, 4);
+fn print_difference(rt: &impl Print, line: &[u8], scene: Scene, reply: &[u8]) -> io::Result<()> {
+    tally::print_verdict(rt, false)?;
+    rt.write_all(line)?;
+    print!(rt; "\n    for {:02x} {:04x}", scene.number, scene.count)?;
     let n = scene.count as usize;
     if n <= reply.len() {
-        print_bytes(&reply[..n]);
+        print_bytes(rt, &reply[..n])?;
     }
-    io::write_all(STDOUT_FILENO, b"\n");
+    println!(rt)
 }
 
 // Whether the last call gave what a line says.
-fn compare(scene: Scene, name: u8, line: &[u8], spelled: &[u8], reply: &[u8]) -> bool {
+fn compare(
+    rt: &impl Print,
+    scene: Scene,
+    name: u8,
+    line: &[u8],
+    spelled: &[u8],
+    reply: &[u8],
+) -> io::Result<bool> {
     let agrees = scene.agrees(name, spelled, reply);
     if !agrees {
-        print_difference(line, scene, reply);
+        print_difference(rt, line, scene, reply)?;
     }
-    agrees
+    Ok(agrees)
 }
 
 // One line: a call, an answer to compare, or neither. The longest spells the 515 characters of an ASCII frame that is too long by a byte.
-fn turn(run: Run, line: &[u8], reply: &mut [u8], volume: &mut [u16]) -> Run {
+fn turn(
+    rt: &impl Print,
+    run: Run,
+    line: &[u8],
+    reply: &mut [u8],
+    volume: &mut [u16],
+) -> io::Result<Run> {
     if text::is_passed_over(line) {
-        return run;
+        return Ok(run);
     }
     let name = text::character(line, 0);
     let name_end = text::find(line, 0, b' ');
@@ -62,19 +68,20 @@ fn turn(run: Run, line: &[u8], reply: &mut [u8], volume: &mut [u16]) -> Run {
     let scene = run.scene;
     let tally = run.tally;
     if (name == b'<') | (name == b'=') {
-        return Run {
+        let agrees = compare(rt, scene, name, line, &space[..n], reply)?;
+        return Ok(Run {
             scene,
-            tally: tally.with(compare(scene, name, line, &space[..n], reply)),
-        };
+            tally: tally.with(agrees),
+        });
     }
-    Run {
+    Ok(Run {
         scene: scene.call(name, &space[..n], reply, volume),
         tally,
-    }
+    })
 }
 
 // The lines of a dialogue after its name.
-fn play(lines: &[u8]) -> Tally {
+fn play(rt: &impl Print, lines: &[u8]) -> io::Result<Tally> {
     let mut volume = [0u16; WORDS];
     let mut reply = [0u8; 513];
     let mut run = Run {
@@ -84,34 +91,32 @@ fn play(lines: &[u8]) -> Tally {
     let mut at = 0;
     while at < lines.len() {
         let end = text::find(lines, at, b'\n');
-        run = turn(run, &lines[at..end], &mut reply, &mut volume);
+        run = turn(rt, run, &lines[at..end], &mut reply, &mut volume)?;
         at = end + 1;
     }
-    run.tally
+    Ok(run.tally)
 }
 
 // The verdict on a dialogue, its line as it was read, and how many answers were compared.
-fn print_dialogue(tally: Tally, line: &[u8]) {
-    tally::print_verdict(tally.differ == 0);
-    io::write_all(STDOUT_FILENO, line);
-    io::write_all(STDOUT_FILENO, b": ");
-    io::print_decimal(STDOUT_FILENO, tally.compared);
-    io::write_all(STDOUT_FILENO, b" answers\n");
+fn print_dialogue(rt: &impl Print, tally: Tally, line: &[u8]) -> io::Result<()> {
+    tally::print_verdict(rt, tally.differ == 0)?;
+    rt.write_all(line)?;
+    println!(rt; ": {} answers", tally.compared)
 }
 
 // Every dialogue of a text.
-pub fn play_all(input: &[u8]) -> Tally {
+pub fn play_all(rt: &impl Print, input: &[u8]) -> io::Result<Tally> {
     let mut tally = Tally::none();
     let mut at = 0;
     while at < input.len() {
         let name_end = text::find(input, at, b'\n');
         let end = text::part_end(input, name_end, b'*');
         if input[at] == b'*' {
-            let played = play(&input[name_end..end]);
-            print_dialogue(played, &input[at..name_end]);
+            let played = play(rt, &input[name_end..end])?;
+            print_dialogue(rt, played, &input[at..name_end])?;
             tally = tally.with(played.differ == 0);
         }
         at = end + 1;
     }
-    tally
+    Ok(tally)
 }

@@ -1,6 +1,6 @@
 // A sonde in a dialogue, and the calls that the dialogue's lines make on it.
 ghost use Rattle.std.specs.Prelude.{◌≤◌};
-ghost use Rattle.io.specs.Counts.{IsPrefixLen};
+ghost use Rattle.text.specs.Text.{IsPrefixLen};
 
 use coefficients::Calibration;
 use entries::Entry;

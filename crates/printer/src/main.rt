@@ -3,16 +3,17 @@
 
 #![tactic(auto)]
 
-use libc::{STDIN_FILENO, STDOUT_FILENO};
+use std::io;
+use std::io::Read;
 
-fn print(bytes: &[u8]) {
+fn print(rt: &impl Print, bytes: &[u8]) -> io::Result<()> {
     let mut out = [0u8; printout::MOST_WRITTEN];
     let length = printout::printout(bytes, &mut out);
-    io::write_all(STDOUT_FILENO, &out[..length]);
+    rt.write_all(&out[..length])
 }
 
-fn main() {
-    let mut bytes = [0u8; 48129];
-    let n = io::read_full(STDIN_FILENO, &mut bytes);
-    print(&bytes[..n]);
+fn main(rt: HostRuntime) -> io::Result<()> {
+    let mut bytes = Vec::new(rt.alloc());
+    rt.reader().take(48129).read_to_end(&mut bytes)?;
+    print(&rt, bytes.as_slice())
 }

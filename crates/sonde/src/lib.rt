@@ -1,5 +1,5 @@
-// The calls for programs in C, as include/sonde.h declares them. A slice is a pointer and a length there. The frame call is put together
-// here: a function in between that takes a sonde and hands it back would cost a copy of it.
+// The ten calls. The frame call is put together here: a function in between that takes a sonde and hands it back would cost a copy of it. `sonde_c`
+// exports them for programs in C.
 
 #![tactic(auto)]
 
@@ -20,29 +20,25 @@ use refusals::numbers;
 use service::{Arrival, SondeAudit, SondeFrame, SondeMade};
 use state::Sonde;
 
-#[unsafe(no_mangle)]
-pub extern "C" fn sonde_fresh(address: u8) -> SondeMade
+pub fn sonde_fresh(address: u8) -> SondeMade
     ensures { result ≡ fresh_of address }
 {
     calls::fresh(address)
 }
 
-#[unsafe(no_mangle)]
-pub extern "C" fn sonde_begin(sonde: Sonde, volume: &mut [u16]) -> SondeMade
+pub fn sonde_begin(sonde: Sonde, volume: &mut [u16]) -> SondeMade
     ensures { begun result volume.new ≡ begin_of sonde volume.old }
 {
     calls::begin(sonde, volume)
 }
 
-#[unsafe(no_mangle)]
-pub extern "C" fn sonde_power_up(address: u8, volume: &[u16]) -> SondeMade
+pub fn sonde_power_up(address: u8, volume: &[u16]) -> SondeMade
     ensures { result ≡ power_up_of address volume.now }
 {
     calls::power_up(address, volume)
 }
 
-#[unsafe(no_mangle)]
-pub extern "C" fn sonde_measure(
+pub fn sonde_measure(
     sonde: Sonde,
     sensor: u8,
     present: bool,
@@ -56,8 +52,7 @@ pub extern "C" fn sonde_measure(
 
 // The numbers come first. Then what the frame carries is judged and answered from the parts of the sonde that it needs, and what it changes is put
 // into the sonde once. An ASCII frame is decoded into bytes of the call's own; the body of an RTU frame is a part of it.
-#[unsafe(no_mangle)]
-pub extern "C" fn sonde_frame(
+pub fn sonde_frame(
     mut sonde: Sonde,
     frame: &[u8],
     reply: &mut [u8],
@@ -118,36 +113,31 @@ pub extern "C" fn sonde_frame(
     }
 }
 
-#[unsafe(no_mangle)]
-pub extern "C" fn sonde_audit(sonde: Sonde, volume: &[u16]) -> SondeAudit
+pub fn sonde_audit(sonde: Sonde, volume: &[u16]) -> SondeAudit
     ensures { result ≡ audit_of sonde volume.now }
 {
     calls::audit(sonde, volume)
 }
 
-#[unsafe(no_mangle)]
-pub extern "C" fn sonde_print(volume: &[u16], page: &mut [u8]) -> SondePrint
+pub fn sonde_print(volume: &[u16], page: &mut [u8]) -> SondePrint
     ensures { printed result page.new ≡ print_of volume.now page.old }
 {
     printing::print(volume, page)
 }
 
-#[unsafe(no_mangle)]
-pub extern "C" fn sonde_append(volume: &mut [u16], entry: Entry, stores: usize)
+pub fn sonde_append(volume: &mut [u16], entry: Entry, stores: usize)
     ensures { volume.new ≡ append_up_to stores volume.old entry }
 {
     recording::append(volume, entry, stores);
 }
 
-#[unsafe(no_mangle)]
-pub extern "C" fn sonde_salvage(volume: &mut [u16]) -> SondeSalvage
+pub fn sonde_salvage(volume: &mut [u16]) -> SondeSalvage
     ensures { salvaged result volume.new ≡ salvage_of volume.old }
 {
     salvage::salvage(volume)
 }
 
-#[unsafe(no_mangle)]
-pub extern "C" fn sonde_crc_round(sum: u16, word: u16) -> u16
+pub fn sonde_crc_round(sum: u16, word: u16) -> u16
     ensures { result ≡ crc_word sum word }
 {
     rtu::crc::round(sum, word)

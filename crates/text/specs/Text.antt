@@ -1,6 +1,10 @@
 -- Text as a list of characters, each by its number in ASCII. Document 01: "a program compares the rest and the standard's CRC vectors with a second
 -- implementation"; these are the lines that it reads. Assumes nothing.
-use Rattle.std.specs.Prelude.{Bool, cond, ◌&&◌, ◌||◌, List, [], ◌∷◌, ℕ, suc, ◌+◌, eqb, get_or, drop}
+use Rattle.std.specs.Prelude.{Bool, cond, ◌&&◌, ◌||◌, List, [], ◌∷◌, ℕ, suc, ◌+◌, ◌≤◌, ◌≡◌, eqb, get_or, length, take, drop}
+
+-- so many characters stand at the start of a text, and its first so many are so many
+abbrev pub IsPrefixLen : ℕ → List ℕ → Type 0
+IsPrefixLen n xs = (n ≤ length xs) × (n ≡ length (take n xs))
 
 -- the character at a place, 0 past the end
 unfoldable pub character_at : List ℕ → ℕ → ℕ

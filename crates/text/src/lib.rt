@@ -5,13 +5,13 @@
 pub mod tally; // comparisons, counted
 
 ghost use Rattle.std.specs.Prelude.{◌≡◌, ◌+◌, ◌-◌, ◌≤◌, length, take, drop};
-ghost use Rattle.io.specs.Counts.{IsPrefixLen};
-ghost use Rattle.text.specs.Text.{character_at, find_of, part_end_of, is_passed_over};
+ghost use Rattle.text.specs.Text.{IsPrefixLen, character_at, find_of, part_end_of, is_passed_over};
 ghost use Rattle.text.specs.Hex.{digit_of, pair_of, past_space, decoded_of};
 
-use libc::STDOUT_FILENO;
+use std::io;
 
 // Where a character first stands from a place on, or the end of the text.
+#[tactic(auto, using(crate::proofs::Found::find_end, crate::proofs::Found::find_here, crate::proofs::Found::find_on))]
 pub fn find(text: &[u8], at: usize, c: u8) -> usize
     ensures value { result ≡ find_of text.now at c }
     ensures lower_bound { at ≤ result }
@@ -28,6 +28,7 @@ pub fn find(text: &[u8], at: usize, c: u8) -> usize
 }
 
 // Where the part that a place is in ends: at the line feed before a line that begins with `mark`, or at the end of the text.
+#[tactic(auto, using(crate::proofs::Found::part_end, crate::proofs::Found::part_here, crate::proofs::Found::part_on))]
 pub fn part_end(text: &[u8], at: usize, mark: u8) -> usize
     ensures value { result ≡ part_end_of text.now at mark }
     ensures lower_bound { at ≤ result }
@@ -44,6 +45,7 @@ pub fn part_end(text: &[u8], at: usize, mark: u8) -> usize
 }
 
 // The character at a place of a line, and 0 past its end.
+#[tactic(auto, unfolding(crate::specs::Text::character_at))]
 pub fn character(line: &[u8], at: usize) -> u8
     ensures { result ≡ character_at line.now at }
 {
@@ -51,6 +53,7 @@ pub fn character(line: &[u8], at: usize) -> u8
 }
 
 // Whether a line has nothing to play or compare: it is empty, or begins with `#`.
+#[tactic(auto, unfolding(crate::specs::Text::is_passed_over))]
 pub fn is_passed_over(line: &[u8]) -> bool
     ensures { result ≡ is_passed_over line.now }
 {
@@ -59,6 +62,7 @@ pub fn is_passed_over(line: &[u8]) -> bool
 }
 
 // The value of a hexadecimal digit, and 16 for any other character.
+#[tactic(auto, unfolding(crate::specs::Hex::digit_of, crate::specs::Hex::is_between))]
 fn digit(c: u8) -> u8
     ensures value { result ≡ digit_of c }
     ensures upper_bound { result ≤ 16 }
@@ -76,6 +80,7 @@ fn digit(c: u8) -> u8
 }
 
 // The byte that two digits spell, and 256 where they are not two digits.
+#[tactic(auto, unfolding(crate::specs::Hex::pair_of))]
 fn pair(high: u8, low: u8) -> u16
     ensures value { result ≡ pair_of high low }
     ensures upper_bound { result ≤ 256 }
@@ -92,6 +97,7 @@ fn pair(high: u8, low: u8) -> u16
 }
 
 // A place of a line, or the next where a space stands there.
+#[tactic(auto, using(crate::proofs::Decoded::there), unfolding(crate::specs::Hex::past_space))]
 fn past_space(line: &[u8], at: usize) -> usize
     ensures value { result ≡ past_space line.now at }
     ensures upper_bound { result ≤ at + 1 }
@@ -104,6 +110,7 @@ fn past_space(line: &[u8], at: usize) -> usize
 
 // Puts the bytes that a line spells at its start, each in two digits with or without a space in front, at the start of `out`, as many as it
 // holds, and gives how many they are.
+#[tactic(auto, unfolding(crate::specs::Hex::decoded_of))]
 pub fn decode(line: &[u8], out: &mut [u8]) -> usize
     ensures prefix_len { IsPrefixLen result out.new }
     ensures out_after { take result out.new ≡ decoded_of line.now (length out.old) }
@@ -125,9 +132,6 @@ pub fn decode(line: &[u8], out: &mut [u8]) -> usize
 }
 
 // What a program prints whose input fills its buffer.
-pub fn print_cut_off() {
-    io::write_all(
-        STDOUT_FILENO,
-        b"the input fills its buffer and may be cut off\n",
-    );
+pub fn print_cut_off(rt: &impl Print) -> io::Result<()> {
+    println!(rt; "the input fills its buffer and may be cut off")
 }

@@ -2,7 +2,7 @@
 ghost use Rattle.std.specs.Prelude.{◌≡◌};
 ghost use Rattle.text.specs.Tally.{one_more, none_tallied, tallied};
 
-use libc::STDOUT_FILENO;
+use std::io;
 
 // How many were compared, and how many of them differ. Each stops at the largest u64.
 #[derive(Clone, Copy)]
@@ -12,6 +12,7 @@ pub struct Tally {
 }
 
 // One more, up to the largest u64.
+#[tactic(auto, unfolding(crate::specs::Tally::one_more))]
 fn one_more(n: u64) -> u64
     ensures { result ≡ one_more n }
 {
@@ -22,6 +23,7 @@ fn one_more(n: u64) -> u64
 }
 
 impl Tally {
+    #[tactic(auto, unfolding(crate::specs::Tally::none_tallied))]
     pub fn none() -> Tally
         ensures { result ≡ none_tallied }
     {
@@ -32,6 +34,7 @@ impl Tally {
     }
 
     // One more.
+    #[tactic(auto, unfolding(crate::specs::Tally::tallied))]
     pub fn with(self, agrees: bool) -> Tally
         ensures { result ≡ tallied self agrees }
     {
@@ -49,19 +52,16 @@ impl Tally {
     }
 
     // How many were compared, what they are, and how many differ.
-    pub fn print(self, what: &[u8]) {
-        io::print_decimal(STDOUT_FILENO, self.compared);
-        io::write_all(STDOUT_FILENO, what);
-        io::print_decimal(STDOUT_FILENO, self.differ);
-        io::write_all(STDOUT_FILENO, b" differ\n");
+    pub fn print(self, rt: &impl Print, what: &str) -> io::Result<()> {
+        println!(rt; "{}{what}{} differ", self.compared, self.differ)
     }
 }
 
 // The verdict, at the start of a line.
-pub fn print_verdict(agrees: bool) {
+pub fn print_verdict(rt: &impl Print, agrees: bool) -> io::Result<()> {
     if agrees {
-        io::write_all(STDOUT_FILENO, b"agrees  ");
+        print!(rt; "agrees  ")
     } else {
-        io::write_all(STDOUT_FILENO, b"DIFFERS ");
+        print!(rt; "DIFFERS ")
     }
 }

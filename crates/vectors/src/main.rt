@@ -7,7 +7,8 @@ mod table; // CRC-16 by a table
 
 ghost use Rattle.std.specs.Prelude.{◌≡◌, length};
 
-use libc::{STDIN_FILENO, STDOUT_FILENO};
+use std::io;
+use std::io::Read;
 use text::tally;
 use text::tally::Tally;
 
@@ -21,18 +22,21 @@ fn sent(frame: &[u8]) -> u16 {
 }
 
 // The verdict, both checksums, and the line as it was read.
-fn print_frame(agrees: bool, library: u16, table: u16, line: &[u8]) {
-    tally::print_verdict(agrees);
-    io::print_hex(STDOUT_FILENO, library as u64, 4);
-    io::write_all(STDOUT_FILENO, b" ");
-    io::print_hex(STDOUT_FILENO, table as u64, 4);
-    io::write_all(STDOUT_FILENO, b"  ");
-    io::write_all(STDOUT_FILENO, line);
-    io::write_all(STDOUT_FILENO, b"\n");
+fn print_frame(
+    rt: &impl Print,
+    agrees: bool,
+    library: u16,
+    table: u16,
+    line: &[u8],
+) -> io::Result<()> {
+    tally::print_verdict(rt, agrees)?;
+    print!(rt; "{library:04x} {table:04x}  ")?;
+    rt.write_all(line)?;
+    println!(rt)
 }
 
 // The frame of one line: the library, the table and the frame itself have one checksum, and the library takes the frame.
-fn compare_frame(line: &[u8]) -> bool {
+fn compare_frame(rt: &impl Print, line: &[u8]) -> io::Result<bool> {
     let mut space = [0u8; 260];
     let n = text::decode(line, &mut space);
     let frame = &space[..n];
@@ -40,23 +44,23 @@ fn compare_frame(line: &[u8]) -> bool {
     let library = rtu::crc::crc16(body);
     let table = table::crc16(body);
     let agrees = (library == table) & (library == sent(frame)) & rtu::frame::is_good(frame);
-    print_frame(agrees, library, table, line);
-    agrees
+    print_frame(rt, agrees, library, table, line)?;
+    Ok(agrees)
 }
 
 // Every frame of the input.
-fn compare_frames(input: &[u8]) -> Tally {
+fn compare_frames(rt: &impl Print, input: &[u8]) -> io::Result<Tally> {
     let mut tally = Tally::none();
     let mut at = 0;
     while at < input.len() {
         let end = text::find(input, at, b'\n');
         let line = &input[at..end];
         if !text::is_passed_over(line) {
-            tally = tally.with(compare_frame(line));
+            tally = tally.with(compare_frame(rt, line)?);
         }
         at = end + 1;
     }
-    tally
+    Ok(tally)
 }
 
 // Whether the library and the table give a message one checksum.
@@ -110,16 +114,17 @@ fn sweep_sums() -> Tally {
     tally
 }
 
-fn main() {
-    let mut space = [0u8; 131072];
-    let n = io::read_full(STDIN_FILENO, &mut space);
-    if n == 131072 {
-        text::print_cut_off();
-        return;
+fn main(rt: HostRuntime) -> io::Result<()> {
+    let mut input = Vec::new(rt.alloc());
+    if rt.reader().take(131072).read_to_end(&mut input)? == 131072 {
+        return text::print_cut_off(&rt);
     }
-    let frames = compare_frames(&space[..n]);
-    sweep_bytes().print(b" messages of one byte, every byte, ");
-    sweep_lengths().print(b" messages of one pattern, every length from 0 to 256, ");
-    sweep_sums().print(b" rounds, every sum, ");
-    frames.print(b" frames, ");
+    let frames = compare_frames(&rt, input.as_slice())?;
+    sweep_bytes().print(&rt, " messages of one byte, every byte, ")?;
+    sweep_lengths().print(
+        &rt,
+        " messages of one pattern, every length from 0 to 256, ",
+    )?;
+    sweep_sums().print(&rt, " rounds, every sum, ")?;
+    frames.print(&rt, " frames, ")
 }

@@ -52,7 +52,7 @@
 //! # Linking
 //!
 //! The library is for x86-64. It is looked for in the folder that the environment variable `SONDE_LIB_DIR` names, by its path from the root
-//! (`PREFIX/lib`, where `./install` has put `libsonde.a`), and without that in `target/staticlib` of the repository, where `rt staticlib sonde`
+//! (`PREFIX/lib`, where `./install` has put `libsonde.a`), and without that in `target/staticlib` of the repository, where `tests/library`
 //! writes it.
 //!
 //! # Without std
