@@ -17,6 +17,7 @@ pub struct Judged {
 }
 
 // The number that refuses a frame of this framing with so many bytes of reply buffer, by whether the sonde and its volume agree; 0 is none.
+#[tactic(auto, unfolding(crate::specs::Steps::number_by))]
 pub fn number_of(ascii: bool, room: usize, agreed: bool) -> u8
     ensures { result ≡ number_by ascii room agreed }
 {
@@ -57,6 +58,7 @@ pub fn sensor_index(judged: Judged) -> usize
 }
 
 // What the body that a frame carries asks of the sonde with this address; no bytes are a bad frame's.
+#[tactic(auto, unfolding(framing::specs::Steps::carried_by))]
 pub fn judge(own: u8, body: &[u8]) -> Judged
     ensures { result ≡ judged_of own body.now }
 {
