@@ -25,8 +25,7 @@ use Rattle.admission.specs.declared.Judged.{Judged}
 use Rattle.frames.proofs.Steps.{step_short}
 use Rattle.replies.proofs.Sealed.{reply_sealed}
 use borrow.Author.Rules.{rules}
-use Rattle.frames.proofs.serve.Statement.{statement}
-use Rattle.frames.proofs.serve.Tie as tie
+use Rattle.frames.proofs.serve.Goals as goal
 
 -- the step by the parts that were judged
 step_same : (own : ℕ) (e : Device) (s : Sensor) (body w : List ℕ) (j : Judged) → j ≡ judged_of own body
@@ -47,35 +46,31 @@ for_short own e s body w l = rw (body_again body) (step_short (header_of body) b
 start_bytes : (buffer b : List ℕ) → Bytes (overlay b buffer) → Bytes b
 start_bytes buffer b h = rw (overlay-start buffer b (length b) refl) at (take_bytes (length b) (overlay b buffer) h)
 
-answer-requires : tie.Need-answer-requires
-answer-requires c κs =
-    let x = c.before.before.before.before.before in
-    let a = x.args in
-    rw x.requires.2 (omega (arith, x.requires.0, room_least a.arrival.ascii), x.requires.1, facts a.own a.body.now)
+pub answer-effect-requires : goal.answer-effect-requires
+answer-effect-requires c =
+    let a = c.args in
+    rw c.requires.2 (omega (arith, c.requires.0, room_least a.arrival.ascii), c.requires.1, facts a.own a.body.now)
 
-seal-requires : tie.Need-seal-requires
-seal-requires c κs =
-    let s = c.before.before.before.before.before in
-    let x = s.before.before.before.before.before.before in
-    let a = x.args in
-    let e = s.answer.ensures.0 ∙ ap effect_of (step_same a.own (device_of a.counters a.technician a.volume.now a.arrival) a.sensor a.body.now a.volume.now a.judged x.requires.2) in
-    (rw e (for_short a.own (device_of a.counters a.technician a.volume.now a.arrival) a.sensor a.body.now a.volume.now x.requires.1), search rules)
+pub seal-requires : goal.seal-requires
+seal-requires c =
+    let a = c.args in
+    let e = c.answer-effect.ensures.value ∙ ap effect_of (step_same a.own (device_of a.counters a.technician a.volume.now a.arrival) a.sensor a.body.now a.volume.now a.judged c.requires.2) in
+    (rw e (for_short a.own (device_of a.counters a.technician a.volume.now a.arrival) a.sensor a.body.now a.volume.now c.requires.1), search rules)
 
-returns : tie.Need-returns
+pub returns : goal.returns
 returns c =
-    let l = c.before.before in
-    let s = l.before.before.before.before.before.before in
-    let x = s.before.before.before.before.before.before in
-    let a = x.args in
-    let p = step_same a.own (device_of a.counters a.technician a.volume.now a.arrival) a.sensor a.body.now a.volume.now a.judged x.requires.2 in
+    let a = c.args in
+    let p = step_same a.own (device_of a.counters a.technician a.volume.now a.arrival) a.sensor a.body.now a.volume.now a.judged c.requires.2 in
     let y = step_for a.own (device_of a.counters a.technician a.volume.now a.arrival) a.sensor (carried_by a.body.now) a.volume.now in
-    let e : s.answer.result ≡ effect_of y = s.answer.ensures.0 ∙ ap effect_of p in
-    let r : s.answer.new.1.0 ≡ overlay y.body a.reply.now = s.answer.ensures.1.0 ∙ ap (λ (z : Step). overlay z.body a.reply.now) p in
-    let w : s.answer.new.1.1.0 ≡ y.volume = s.answer.ensures.1.1 ∙ ap (λ (z : Step). z.volume) p in
+    let e : c.answer-effect.result ≡ effect_of y = c.answer-effect.ensures.value ∙ ap effect_of p in
+    let r : c.answer-effect.new.reply ≡ overlay y.body a.reply.now = c.answer-effect.ensures.reply_after ∙ ap (λ (z : Step). overlay z.body a.reply.now) p in
+    let w : c.answer-effect.new.volume ≡ y.volume = c.answer-effect.ensures.volume_after ∙ ap (λ (z : Step). z.volume) p in
     let t : take (length y.body) (overlay y.body a.reply.now) ≡ y.body = overlay-start a.reply.now y.body (length y.body) refl in
-    let k : Bytes s.answer.new.1.0 = record { below = λ i. omega (arith, l.before.before.before.before.slice-known3.given i) } in
+    let k : Bytes c.answer-effect.new.reply = record { below = λ i. omega (arith, c.slice_known-3-1.given i) } in
     let b : Bytes y.body = start_bytes a.reply.now y.body (rw r at k) in
-    (rw (l.seal.ensures.0, r, e, t), (l.seal.ensures.1 ∙ rw (r, e, t) (reply_sealed a.arrival.ascii a.reply.now y.body), (w, b)))
-
-pub serve_spec : {M : Type 1} → statement M
-serve_spec = tie.close (tie.spec answer-requires seal-requires (λ c. search rules) (λ c. search rules) returns)
+    record {
+      value = rw (c.seal.ensures.value, r, e, t);
+      reply_after = c.seal.ensures.reply_after ∙ rw (r, e, t) (reply_sealed a.arrival.ascii a.reply.now y.body);
+      volume_after = w;
+      bytes = b;
+    }
