@@ -38,13 +38,7 @@ pub fn sonde_power_up(address: u8, volume: &[u16]) -> SondeMade
     calls::power_up(address, volume)
 }
 
-pub fn sonde_measure(
-    sonde: Sonde,
-    sensor: u8,
-    present: bool,
-    raw1: f32,
-    raw2: f32,
-) -> SondeMade
+pub fn sonde_measure(sonde: Sonde, sensor: u8, present: bool, raw1: f32, raw2: f32) -> SondeMade
     ensures { result ≡ measure_of sonde sensor present raw1 raw2 }
 {
     calls::measure(sonde, sensor, present, raw1, raw2)
