@@ -25,22 +25,3 @@ loop-i-preserved c =
     let r = c.round-sum.ensures ∙ ap (crc_word at.sum) c.word.ensures in
     let w = sym (crc_from_word s at.sum k c.round-sum.result h b.fits r) ∙ at.invariant.3 in
     (refl, refl, omega arith, sym (ap (λ (m : ℕ). crc_from c.round-sum.result (drop m s)) n) ∙ w)
-
-pub returns-then-n-eq1 : goal.returns-then-n-eq1
-unfolding crc_from
-returns-then-n-eq1 c =
-    let at = c.loop-i in
-    let s : List ℕ = c.args.bytes.now in
-    let h : 2 * at.i < length s = omega arith in
-    let last : length s - 1 ≡ 2 * at.i = omega arith in
-    let e : 2 * at.i + 1 ≡ length s = omega arith in
-    let r = rw last at c.step_byte.ensures in
-    rw (e, drop-length) at (sym (crc_from-step s at.sum (2 * at.i) c.step_byte.result h r) ∙ at.invariant.3)
-
-pub returns : goal.returns
-unfolding crc_from
-returns c =
-    let at = c.loop-i in
-    let s : List ℕ = c.args.bytes.now in
-    let e : 2 * at.i ≡ length s = omega (arith, c.if-n-eq1.false) in
-    rw (e, drop-length) at at.invariant.3
