@@ -9,7 +9,7 @@ use lib.ListN.{length, get_or, take, set}
 use lib.Seq.{sets, take-suc, length-take-le}
 use Rattle.words.specs.Bytes.{bytes_of}
 use Rattle.words.proofs.Bytes.{bytes_append, bytes_length}
-use Rattle.words.proofs.Stores.{sets-append}
+use Rattle.words.proofs.Stores.{sets-append, sets-overlay}
 
 -- one word more of a list, from byte 3 on
 pub word_more : (v ws : List ℕ) (i : ℕ) → i < length ws
@@ -25,3 +25,6 @@ word_more v ws i h =
     ∙ sets-append v 3 done (w / 256 ∷ w % 256 ∷ [])
     ∙ ap (λ (k : ℕ). set (set (sets v 3 done) k (w / 256)) (suc k) (w % 256)) n
     ∙ ap (λ (k : ℕ). set (set (sets v 3 done) (3 + 2 * i) (w / 256)) k (w % 256)) m)
+
+-- a list stored from byte 0 on, and how long the start of a list is
+pub ruleset from_start = (sets-overlay, length-take-le)

@@ -45,6 +45,7 @@ fn put_bytes(reply: &mut [u8], bytes: &[u8])
 }
 
 // To a write: the request, of function 16 its first six bytes (address, function, start, count).
+#[tactic(auto, using(crate::proofs::Stores::from_start), unfolding(crate::specs::Reply::written_body))]
 pub fn put_written(reply: &mut [u8], function: u8, body: &[u8]) -> usize
     requires { (256 ≤ length reply.old) × (6 ≤ length body.now) × (length body.now ≤ 254) }
     ensures value { result ≡ length (written_body function body.now) }
@@ -79,6 +80,7 @@ pub fn put_exception(reply: &mut [u8], address: u8, function: u8, code: u8) -> u
 }
 
 // The reply's body in the first n bytes gets its framing; no body is no reply.
+#[tactic(auto, using(crate::proofs::Stores::from_start, framing::proofs::Sealed::room_least), unfolding(crate::specs::Reply::reply_of, words::specs::Overlay::overlay))]
 pub fn seal(ascii: bool, reply: &mut [u8], n: usize) -> u16
     requires { (n ≤ 254) × (room_in ascii ≤ length reply.old) }
     ensures value { result ≡ length (reply_of ascii (take n reply.old)) }
