@@ -28,7 +28,6 @@ fn owner_bit(owner: u16) -> u8
 }
 
 // The offset that isn't known to exist yet: past the field, where the field holds it.
-#[tactic(auto, unfolding(crate::specs::Steps::reach_by))]
 fn reach(f: Field, bit: u8, at: u16) -> u16
     requires { f.offset + f.words ≤ 65535 }
     ensures { result ≡ reach_by f bit at }
