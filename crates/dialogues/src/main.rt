@@ -14,5 +14,5 @@ fn main(rt: HostRuntime) -> io::Result<()> {
     if rt.reader().take(196608).read_to_end(&mut input)? == 196608 {
         return text::print_cut_off(&rt);
     }
-    play::play_all(&rt, input.as_slice())?.print(&rt, " dialogues, ")
+    play::play_all(&rt, input.as_slice())?.print(&rt, b" dialogues, ")
 }

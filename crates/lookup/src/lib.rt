@@ -41,6 +41,7 @@ fn reach(f: Field, bit: u8, at: u16) -> u16
 
 // What `count` registers from `start` on are, in one pass over the rows; none past 0xFFFF exists. No row has more than two words, so none
 // before row offset / 2 holds the first register.
+#[tactic(auto, using(crate::proofs::Ends::reached_none, crate::proofs::Ends::first_none, crate::proofs::Ends::span_inside, crate::proofs::Ends::span_past))]
 pub fn span(start: u16, count: u16) -> Span
     ensures { result ≡ span_of start count }
 {

@@ -52,8 +52,10 @@ impl Tally {
     }
 
     // How many were compared, what they are, and how many differ.
-    pub fn print(self, rt: &impl Print, what: &str) -> io::Result<()> {
-        println!(rt; "{}{what}{} differ", self.compared, self.differ)
+    pub fn print(self, rt: &impl Print, what: &[u8]) -> io::Result<()> {
+        print!(rt; "{}", self.compared)?;
+        rt.write_all(what)?;
+        println!(rt; "{} differ", self.differ)
     }
 }
 

@@ -120,11 +120,11 @@ fn main(rt: HostRuntime) -> io::Result<()> {
         return text::print_cut_off(&rt);
     }
     let frames = compare_frames(&rt, input.as_slice())?;
-    sweep_bytes().print(&rt, " messages of one byte, every byte, ")?;
+    sweep_bytes().print(&rt, b" messages of one byte, every byte, ")?;
     sweep_lengths().print(
         &rt,
-        " messages of one pattern, every length from 0 to 256, ",
+        b" messages of one pattern, every length from 0 to 256, ",
     )?;
-    sweep_sums().print(&rt, " rounds, every sum, ")?;
-    frames.print(&rt, " frames, ")
+    sweep_sums().print(&rt, b" rounds, every sum, ")?;
+    frames.print(&rt, b" frames, ")
 }

@@ -4,15 +4,15 @@ use Prim.Native.Nat.{◌/◌, ◌%◌}
 use native.Mathlib.Nat.{le_trans}
 use native.Mathlib.Omega.{arith}
 use lib.Dec.{eqb, ltb}
-use lib.ListN.{get_or, drop_of_length-le}
+use lib.ListN.{get_or}
 use borrow.Author.Rules.{rules}
-use borrow.Author.Tests.{eqb-true, ltb-true, le-leb, lt-leb}
+use borrow.Author.Tests.{eqb-true, ltb-true}
 use Rattle.floats.proofs.Bools.{both}
 use Rattle.fields.specs.declared.Field.{Field}
 use Rattle.fields.specs.Fields.{fields, owns, holds, exactly}
-use Rattle.fields.proofs.Runs.{reach, run_end, all_found-run, run_begins}
+use Rattle.fields.proofs.Runs.{reach, run_begins}
 use Rattle.fields.proofs.Search.{no_field, hit, miss, more, row_shape, whole_begins}
-use Rattle.fields.proofs.Spans.{span_whole, span_mismatch, span_gap, span_unowned}
+use Rattle.fields.proofs.Spans.{span_whole, span_unowned}
 use Rattle.lookup.specs.Steps.{reach_by}
 use Rattle.lookup.proofs.span.Goals as goal
 
@@ -49,16 +49,3 @@ loop-i-preserved c =
       c.loop-i.invariant.1 ∙ more c.loop-i.i c.loop-i-test.true (a.start / 100) c.loop-i.at ∙ rw (c.reach-at.ensures, s, b),
       c.loop-i.invariant.2 ∙ miss c.loop-i.i c.loop-i-test.true t e,
     )
-
-pub returns-then-end-at : goal.returns-then-end-at
-returns-then-end-at c =
-    let a = c.args in
-    let n = drop_of_length-le fields c.loop-i-test.false in
-    let e : run_end a.start ≡ c.loop-i.at = rw n at c.loop-i.invariant.1 in
-    sym (span_mismatch a.start a.count (all_found-run a.start a.count ∙ rw e (le-leb _ _ c.if-end-at.true)) (rw n at c.loop-i.invariant.2))
-
-pub returns : goal.returns
-returns c =
-    let a = c.args in
-    let e : run_end a.start ≡ c.loop-i.at = rw (drop_of_length-le fields c.loop-i-test.false) at c.loop-i.invariant.1 in
-    sym (span_gap a.start a.count (all_found-run a.start a.count ∙ rw e (lt-leb _ _ c.if-end-at.false)))

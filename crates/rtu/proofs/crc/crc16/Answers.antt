@@ -1,12 +1,10 @@
 use mathlib.Core.Path.{◌≡◌, refl, sym, ap, ◌∙◌}
-use Prim.Native.Nat.{ℕ, ◌<◌, ◌-◌, ◌+◌, ◌*◌}
+use Prim.Native.Nat.{ℕ, ◌<◌, ◌+◌, ◌*◌}
 use native.Mathlib.Omega.{arith}
 use mathlib.Core.List.{List}
 use lib.ListN.{length, drop}
-use lib.Seq.{drop-length}
 use Rattle.rtu.specs.Crc.{crc_from, crc_of}
 use Rattle.rtu.specs.Rounds.{crc_word}
-use Rattle.rtu.proofs.Checksum.{crc_from-step}
 use Rattle.rtu.proofs.Rounds.{crc_from_word}
 use Rattle.rtu.proofs.crc.crc16.Goals as goal
 
