@@ -7,12 +7,12 @@ mod play; // lines of calls and answers
 mod scene; // the sonde of a dialogue
 
 use std::io;
-use std::io::Read;
 
 fn main(rt: HostRuntime) -> io::Result<()> {
-    let mut input = Vec::new(rt.alloc());
-    if rt.reader().take(196608).read_to_end(&mut input)? == 196608 {
+    let mut space = [0u8; 196608];
+    let n = text::read_full(&mut rt.reader(), &mut space)?;
+    if n == 196608 {
         return text::print_cut_off(&rt);
     }
-    play::play_all(&rt, input.as_slice())?.print(&rt, b" dialogues, ")
+    play::play_all(&rt, &space[..n])?.print(&rt, b" dialogues, ")
 }

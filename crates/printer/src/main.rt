@@ -4,7 +4,6 @@
 #![tactic(auto)]
 
 use std::io;
-use std::io::Read;
 
 fn print(rt: &impl Print, bytes: &[u8]) -> io::Result<()> {
     let mut out = [0u8; printout::MOST_WRITTEN];
@@ -13,7 +12,7 @@ fn print(rt: &impl Print, bytes: &[u8]) -> io::Result<()> {
 }
 
 fn main(rt: HostRuntime) -> io::Result<()> {
-    let mut bytes = Vec::new(rt.alloc());
-    rt.reader().take(48129).read_to_end(&mut bytes)?;
-    print(&rt, bytes.as_slice())
+    let mut bytes = [0u8; 48129];
+    let n = text::read_full(&mut rt.reader(), &mut bytes)?;
+    print(&rt, &bytes[..n])
 }

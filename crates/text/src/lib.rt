@@ -4,11 +4,12 @@
 
 pub mod tally; // comparisons, counted
 
-ghost use Rattle.std.specs.Prelude.{◌≡◌, ◌+◌, ◌-◌, ◌≤◌, length, take, drop};
+ghost use Rattle.std.specs.Prelude.{◌≡◌, ◌+◌, ◌-◌, ◌≤◌, length, take, drop, IfOk};
 ghost use Rattle.text.specs.Text.{IsPrefixLen, character_at, find_of, part_end_of, is_passed_over};
 ghost use Rattle.text.specs.Hex.{digit_of, pair_of, past_space, decoded_of};
 
 use std::io;
+use std::io::Read;
 
 // Where a character first stands from a place on, or the end of the text.
 #[tactic(auto, using(crate::proofs::Found::find_end, crate::proofs::Found::find_here, crate::proofs::Found::find_on))]
@@ -129,6 +130,21 @@ pub fn decode(line: &[u8], out: &mut [u8]) -> usize
         at = from + 2;
     }
     n
+}
+
+// Reads until a buffer is full or the input ends, and gives how many bytes were read.
+pub fn read_full(reader: &mut impl Read, bytes: &mut [u8]) -> io::Result<usize>
+    ensures { IfOk result (λ n. n ≤ length bytes.old) }
+{
+    let mut n = 0;
+    while n < bytes.len() {
+        let count = reader.read(&mut bytes[n..])?;
+        if count == 0 {
+            return Ok(n);
+        }
+        n += count;
+    }
+    Ok(n)
 }
 
 // What a program prints whose input fills its buffer.

@@ -8,7 +8,6 @@ mod table; // CRC-16 by a table
 ghost use Rattle.std.specs.Prelude.{◌≡◌, length};
 
 use std::io;
-use std::io::Read;
 use text::tally;
 use text::tally::Tally;
 
@@ -115,11 +114,12 @@ fn sweep_sums() -> Tally {
 }
 
 fn main(rt: HostRuntime) -> io::Result<()> {
-    let mut input = Vec::new(rt.alloc());
-    if rt.reader().take(131072).read_to_end(&mut input)? == 131072 {
+    let mut space = [0u8; 131072];
+    let n = text::read_full(&mut rt.reader(), &mut space)?;
+    if n == 131072 {
         return text::print_cut_off(&rt);
     }
-    let frames = compare_frames(&rt, input.as_slice())?;
+    let frames = compare_frames(&rt, &space[..n])?;
     sweep_bytes().print(&rt, b" messages of one byte, every byte, ")?;
     sweep_lengths().print(
         &rt,
