@@ -54,7 +54,7 @@ pub fn sonde_frame(
     clock: u32,
     ascii: bool,
 ) -> SondeFrame
-    ensures volume_after { outcome result reply.new volume.new ≡ frame_of sonde frame.now reply.old volume.old (arrival clock ascii) }
+    ensures as_defined { outcome result reply.new volume.new ≡ frame_of sonde frame.now reply.old volume.old (arrival clock ascii) }
     ensures answers_bytes { AnswersBytes sonde frame.now reply.old volume.old (arrival clock ascii) }
 {
     let agreed = sonde.is_valid()

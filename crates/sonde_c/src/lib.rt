@@ -60,7 +60,7 @@ pub extern "C" fn sonde_frame(
     clock: u32,
     ascii: bool,
 ) -> SondeFrame
-    ensures volume_after { outcome result reply.new volume.new ≡ frame_of sonde frame.now reply.old volume.old (arrival clock ascii) }
+    ensures as_defined { outcome result reply.new volume.new ≡ frame_of sonde frame.now reply.old volume.old (arrival clock ascii) }
     ensures answers_bytes { AnswersBytes sonde frame.now reply.old volume.old (arrival clock ascii) }
 {
     sonde::sonde_frame(sonde, frame, reply, volume, clock, ascii)

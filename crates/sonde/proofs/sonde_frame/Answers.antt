@@ -23,7 +23,7 @@ returns-then-number-ne-DONE c =
     = c.number_of-number.ensures ∙ rw (c.is_valid.ensures, c.journal_agrees.ensures, c.opening.ensures) in
     let k = refused_left a.sonde a.frame.now a.reply.now a.volume.now (arrival a.clock a.ascii) c.number_of-number.result e c.if-number-ne-DONE.true in
     record {
-      volume_after = k;
+      as_defined = k;
       answers_bytes = refused_bytes a.sonde a.frame.now a.reply.now a.volume.now (arrival a.clock a.ascii) c.number_of-number.result k c.if-number-ne-DONE.true;
     }
 
@@ -68,7 +68,7 @@ returns-in-Nothing c =
     let own = rw c.judge-judged.ensures at c.sensor_index-i.ensures.0 in
     let x = ap carried_by f ∙ carried_again a.ascii a.frame.now in
     record {
-      volume_after = nothing_left a.sonde a.frame.now a.reply.now a.volume.now (arrival a.clock a.ascii) c.number_of-number.result e c.if-number-ne-DONE.false
+      as_defined = nothing_left a.sonde a.frame.now a.reply.now a.volume.now (arrival a.clock a.ascii) c.number_of-number.result e c.if-number-ne-DONE.false
           _ x c.serve-served.result _ _ _ _ (rw own)
           c.serve-served.ensures.value c.serve-served.ensures.reply_after c.serve-served.ensures.volume_after c.count-after.ensures c.in-Nothing.is;
       answers_bytes = step_bytes a.sonde a.frame.now a.reply.now a.volume.now (arrival a.clock a.ascii) c.number_of-number.result e c.if-number-ne-DONE.false
@@ -85,7 +85,7 @@ returns-in-Setup c =
     let own = rw c.judge-judged.ensures at c.sensor_index-i.ensures.0 in
     let x = ap carried_by f ∙ carried_again a.ascii a.frame.now in
     record {
-      volume_after = setup-left a.sonde a.frame.now a.reply.now a.volume.now (arrival a.clock a.ascii) c.number_of-number.result e c.if-number-ne-DONE.false
+      as_defined = setup-left a.sonde a.frame.now a.reply.now a.volume.now (arrival a.clock a.ascii) c.number_of-number.result e c.if-number-ne-DONE.false
           _ x c.serve-served.result _ _ _ _ (rw own)
           c.serve-served.ensures.value c.serve-served.ensures.reply_after c.serve-served.ensures.volume_after c.count-after.ensures _ _ _ c.in-Setup.is c.with_setup-t.ensures own;
       answers_bytes = step_bytes a.sonde a.frame.now a.reply.now a.volume.now (arrival a.clock a.ascii) c.number_of-number.result e c.if-number-ne-DONE.false
