@@ -53,6 +53,7 @@ build() {
 }
 
 prove() {
+    # The time is that of the older rattle-kit-5b.
     echo "$name: proving the library first; from nothing this takes about 5 minutes" >&2
     "$top/tests/library" --progress "$name" >&2 || fail 'rt failed, see above'
 }

@@ -59,6 +59,7 @@ pub fn sensor_index(judged: Judged) -> usize
 
 // What the body that a frame carries asks of the sonde with this address; no bytes are a bad frame's.
 #[tactic(auto, unfolding(framing::specs::Steps::carried_by))]
+#[inline(never)]
 pub fn judge(own: u8, body: &[u8]) -> Judged
     ensures { result ≡ judged_of own body.now }
 {

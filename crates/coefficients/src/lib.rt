@@ -102,6 +102,7 @@ fn within(low: f32, high: f32, x: f32) -> bool
 }
 
 // The table of limits; a number that is no sensor has none.
+#[inline(never)]
 pub fn in_limits(sensor: u16, c: Coefficients) -> bool
     ensures { result ≡ in_limits sensor c }
 {

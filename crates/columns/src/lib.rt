@@ -66,6 +66,7 @@ pub fn put_number(buffer: &mut [u8], at: usize, width: usize, n: u32)
 }
 
 // A number in capital hexadecimal digits, with zeros in front.
+#[inline(never)]
 pub fn put_hex(buffer: &mut [u8], at: usize, width: usize, n: u32)
     requires { at + width ≤ length buffer.old }
     ensures { buffer.new ≡ sets buffer.old at (hex width n) }

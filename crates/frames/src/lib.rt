@@ -44,6 +44,7 @@ fn counted(event: Event, size: usize, technician: u16) -> Effect
 }
 
 // What comes of a plan.
+#[inline(always)]
 fn answer(
     plan: Plan,
     reply: &mut [u8],
@@ -102,6 +103,7 @@ fn answer(
 
 // What comes of a frame whose body was judged. Of the sonde it needs the address, the counters, the technician's number and the sensor
 // that the frame names.
+#[inline(never)]
 pub fn serve(
     judged: Judged,
     body: &[u8],

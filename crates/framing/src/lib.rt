@@ -21,6 +21,7 @@ pub fn room(ascii: bool) -> usize
 
 // Decodes an ASCII frame into lent bytes, and gives its body's length: 0 for a bad frame. The body of an RTU frame is a part of it, so nothing
 // is decoded.
+#[inline(never)]
 pub fn decode(ascii: bool, frame: &[u8], bytes: &mut [u8]) -> usize
     requires { 255 ≤ length bytes.old }
     ensures value { result ≡ length (decoded_in ascii frame.now) }
@@ -45,6 +46,7 @@ fn rtu_body(frame: &[u8]) -> &[u8]
 }
 
 // The body that a frame carries, where `decoded` is what `decode` made of it; no bytes where it is bad.
+#[inline(never)]
 pub fn body<'a>(ascii: bool, frame: &'a [u8], decoded: &'a [u8]) -> &'a [u8]
     ensures { result.now ≡ cond ascii decoded.now (body_of (carried_in false frame.now)) }
 {

@@ -89,6 +89,7 @@ pub fn points_of(m: Method) -> Points
     }
 }
 
+#[inline(never)]
 pub fn candidate_of(m: Method) -> Candidate
     ensures { result ≡ candidate_of m }
 {

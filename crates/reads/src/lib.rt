@@ -30,6 +30,7 @@ pub fn device(c: Counters, technician: u16, volume: &[u16], arrival: Arrival) ->
 
 // A register by its owner, 0 for the device or a sensor's number, and its offset.
 #[tactic(auto, unfolding(registers::specs::Registers::register_of))]
+#[inline(never)]
 fn register_of(owner: u16, device: Device, sensor: Sensor, offset: u16) -> u16
     ensures { result ≡ register_of owner device sensor offset }
 {

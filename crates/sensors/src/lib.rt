@@ -219,6 +219,7 @@ impl Setup {
 
     // Mode on or off; the trial coefficients are those in force again, method 0 and points +0.0.
     #[tactic(auto, unfolding(crate::specs::Changes::restarted))]
+    #[inline(never)]
     pub fn restart(mut self, calibrating: bool) -> Self
         ensures { result ≡ restarted self calibrating }
     {

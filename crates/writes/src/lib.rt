@@ -182,6 +182,7 @@ fn write_sensor(
 
 // The write of an owner's field that isn't read-only: the device's one is the technician's number, which any word is; else a sensor's.
 #[tactic(auto, unfolding(crate::specs::Writes::write_to, crate::specs::Writes::device_written))]
+#[inline(never)]
 pub fn write(owner: u16, s: Setup, field: Field, high: u16, low: u16, context: Context) -> Written
     ensures { result ≡ write_to owner s field high low context }
 {

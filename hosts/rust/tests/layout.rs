@@ -24,7 +24,8 @@ fn declared() -> Fields {
     for folder in fs::read_dir(top().join("crates")).unwrap() {
         for file in fs::read_dir(folder.unwrap().path().join("src")).unwrap() {
             let text = fs::read_to_string(file.unwrap().path()).unwrap();
-            for part in text.split("#[repr(C)]\npub struct ").skip(1) {
+            for part in text.split("#[repr(C)]\n").skip(1) {
+                let (_, part) = part.split_once("pub struct ").unwrap();
                 let (name, rest) = part.split_once(" {\n").unwrap();
                 let (body, _) = rest.split_once("\n}").unwrap();
                 let fields = body
