@@ -1,3 +1,4 @@
 -- What the proofs of `text` share. Assumes nothing.
 pub mod Found
 pub mod Decoded
+pub mod Ranges

@@ -12,7 +12,7 @@ use std::io;
 use std::io::Read;
 
 // Where a character first stands from a place on, or the end of the text.
-#[tactic(auto, using(crate::proofs::Found::find_end, crate::proofs::Found::find_here, crate::proofs::Found::find_on))]
+#[tactic(auto, using(crate::proofs::Found::find_end, crate::proofs::Found::find_equal, crate::proofs::Found::find_other))]
 pub fn find(text: &[u8], at: usize, c: u8) -> usize
     ensures value { result ≡ find_of text.now at c }
     ensures lower_bound { at ≤ result }
@@ -134,7 +134,7 @@ pub fn decode(line: &[u8], out: &mut [u8]) -> usize
 
 // Reads until a buffer is full or the input ends, and gives how many bytes were read.
 pub fn read_full(reader: &mut impl Read, bytes: &mut [u8]) -> io::Result<usize>
-    ensures { IfOk result (λ n. n ≤ length bytes.old) }
+    ensures { IfOk result (λ n. IsPrefixLen n bytes.new) }
 {
     let mut n = 0;
     while n < bytes.len() {
