@@ -4,7 +4,8 @@
 
 pub mod tally; // comparisons, counted
 
-ghost use Rattle.std.specs.Prelude.{◌≡◌, ◌+◌, ◌-◌, ◌≤◌, length, take, drop, IfOk};
+ghost use Rattle.std.specs.Prelude.{◌≡◌, ◌+◌, ◌-◌, ◌≤◌, ◌<◌, length, take, drop, IfOk};
+ghost use Rattle.std.specs.Io.KnownBytes.{Consumes, IsAtEnd};
 ghost use Rattle.text.specs.Text.{IsPrefixLen, character_at, find_of, part_end_of, is_passed_over};
 ghost use Rattle.text.specs.Hex.{digit_of, pair_of, past_space, decoded_of};
 
@@ -132,9 +133,11 @@ pub fn decode(line: &[u8], out: &mut [u8]) -> usize
     n
 }
 
-// Reads until a buffer is full or the input ends, and gives how many bytes were read.
-pub fn read_full(reader: &mut impl Read, bytes: &mut [u8]) -> io::Result<usize>
-    ensures { IfOk result (λ n. IsPrefixLen n bytes.new) }
+// Reads until a buffer is full or the input ends, and gives how many bytes were read: they stand at its start, in order, and where they don't fill it nothing is left.
+pub fn read_full<R: Read>(reader: &mut R, bytes: &mut [u8]) -> io::Result<usize>
+    ensures prefix_len { IfOk result (λ n. IsPrefixLen n bytes.new) }
+    ensures read { IfOk result (λ n. Consumes (R.remaining reader.old) (R.remaining reader.new) (take n bytes.new)) }
+    ensures ended { IfOk result (λ n. n < length bytes.old → IsAtEnd (R.remaining reader.new)) }
 {
     let mut n = 0;
     while n < bytes.len() {
