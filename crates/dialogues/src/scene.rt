@@ -8,6 +8,7 @@ use methods::Points;
 use service::SondeMade;
 use state::Sonde;
 use text::character;
+use words::Halves;
 
 // What a call gave: its number, and the length of a frame's reply, the entries in use of an audit, the words that a salvage changed, or a word
 // of the volume.
@@ -53,14 +54,14 @@ pub struct Scene {
 fn word(spelled: &[u8], at: usize) -> u16
     requires { at ≤ 64 }
 {
-    words::word(character(spelled, at), character(spelled, at + 1))
+    u16::join(character(spelled, at), character(spelled, at + 1))
 }
 
 // The time that begins at a byte.
 fn time(spelled: &[u8], at: usize) -> u32
     requires { at ≤ 62 }
 {
-    (word(spelled, at) as u32) * 65536 + (word(spelled, at + 2) as u32)
+    u32::join(word(spelled, at), word(spelled, at + 2))
 }
 
 // The first n of a buffer, as a call is lent them: none if it has fewer.

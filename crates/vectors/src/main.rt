@@ -9,11 +9,12 @@ ghost use Rattle.std.specs.Iterator.{IsFinite};
 
 use std::io;
 use text::tally::{Summary, Tally, Verdict};
+use words::Halves;
 
 // The checksum that a frame carries, its last two bytes, low byte first; 0 where it has no two.
 fn sent(frame: &[u8]) -> u16 {
     match frame {
-        [.., low, high] => words::word(*high, *low),
+        [.., low, high] => u16::join(*high, *low),
         _ => 0,
     }
 }
@@ -76,7 +77,7 @@ fn sweep_lengths() -> Tally {
 
 // Whether the round of a sum and a word is the table's step of the low byte and then of the high byte.
 fn is_round(sum: u16, word: u16) -> bool {
-    rtu::crc::round(sum, word) == table::step(table::step(sum, words::low(word)), words::high(word))
+    rtu::crc::round(sum, word) == table::step(table::step(sum, word.low()), word.high())
 }
 
 // Every sum, each with a word of its own.
