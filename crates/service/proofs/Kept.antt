@@ -28,7 +28,7 @@ use Rattle.journal.proofs.Kept.{append_keeps, append_used, begin_keeps as begin-
 use Rattle.audit.specs.Audit.{replayed}
 use Rattle.audit.specs.declared.Replayed.{Replayed}
 use Rattle.audit.specs.declared.Replayed.TheVariants.{Invalid, Valid}
-use Rattle.sensors.specs.Changes.{sensor_with_setup}
+use Rattle.sensors.specs.Changes.{raws_of, sensor_with_setup}
 use Rattle.sensors.specs.declared.Setup.{Setup}
 use Rattle.sensors.specs.declared.Sensor.{Sensor}
 use Rattle.registers.specs.Registers.{sensor_register}
@@ -101,7 +101,7 @@ measure_number d s present raw1 raw2 =
     choose P (valid_sonde d) _ _
     (λ e. choose P (ltb s 1) _ _ (λ f h. refl)
     (λ f. choose P (ltb 4 s) _ _ (λ g h. refl)
-    (λ g. choose P (raws_finite s present raw1 raw2) _ _ (λ i h. absurd (h refl)) (λ i h. refl))))
+    (λ g. choose P (raws_finite s (raws_of present raw1 raw2)) _ _ (λ i h. absurd (h refl)) (λ i h. refl))))
     (λ e h. refl)
   where
     P : SondeMade → Type 0
