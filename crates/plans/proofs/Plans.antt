@@ -14,7 +14,7 @@ use Rattle.modbus.specs.declared.Request.TheVariants.{Unsupported, Malformed, Re
 use Rattle.modbus.proofs.Requests.{InRange, in_range}
 use Rattle.fields.specs.Fields.{field_at, all_found, span_of}
 use Rattle.fields.specs.declared.Field.{Field}
-use Rattle.fields.specs.Fields.Found.{Row}
+use Rattle.std.specs.Prelude.{Some}
 use Rattle.fields.specs.declared.Span.{Span}
 use Rattle.fields.specs.declared.Span.TheVariants.{Whole, Mismatch, Gap}
 use Rattle.fields.proofs.Registers.{whole_row}
@@ -31,7 +31,7 @@ use Rattle.plans.specs.declared.Plan.TheVariants.{Bad, Foreign, BroadcastRead, R
 pub record Located (count owner : ℕ) (f : Field) : Type 0 where
   pub register : ℕ
   pub owner_is : register / 100 ≡ owner
-  pub field : field_at register ≡ Row f
+  pub field : field_at register ≡ Some f
   pub begins : f.offset ≡ register % 100
   pub all : f.words ≡ count
   pub writable : f.access ≡ 0 → ⊥

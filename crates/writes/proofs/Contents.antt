@@ -12,7 +12,7 @@ use Rattle.floats.proofs.Bools.{no}
 use Rattle.floats.proofs.Words.{float_and_back}
 use Rattle.parameters.specs.Parameters.{parameter_number, parameter_part}
 use Rattle.fields.specs.declared.Field.{Field}
-use Rattle.fields.specs.Fields.Found.{Row}
+use Rattle.std.specs.Prelude.{Some}
 use Rattle.fields.specs.Fields.{field_at}
 use Rattle.sensors.specs.Sensors.{parameter_of}
 use Rattle.sensors.specs.Changes.{procedure, active, with_procedure, with_active, with_parameters, with_level, with_parameter}
@@ -109,7 +109,7 @@ module _ (n : ℕ) (s : Setup) (high low : ℕ) where
     sentinel-takes (suc (suc (suc (suc k)))) o l h e = absurd (omega arith)
 
 -- a write that is stored, of a field of the map that isn't read-only and isn't the command
-module _ (sensor : ℕ) (s : Setup) (r : ℕ) (f : Field) (found : field_at r ≡ Row f) (writable : f.access ≡ 0 → ⊥) (value : f.offset ≡ 5 → ⊥)
+module _ (sensor : ℕ) (s : Setup) (r : ℕ) (f : Field) (found : field_at r ≡ Some f) (writable : f.access ≡ 0 → ⊥) (value : f.offset ≡ 5 → ⊥)
     (high low : ℕ) (context : Context) (t : Setup) (e : write_of sensor s f high low context ≡ Stored t) where
   -- a field that is writable in mode only was written in mode
   mode_on_holds : f.access ≡ 2 → s.procedure.calibrating ≡ true

@@ -8,7 +8,7 @@ use borrow.Author.Tests.{eqb-true, eq-eqb, ne_eqb, le-leb}
 use Rattle.floats.proofs.Bools.{beq_true}
 use Rattle.parameters.specs.Parameters.{parameter_part}
 use Rattle.fields.specs.declared.Field.{Field}
-use Rattle.fields.specs.Fields.Found.{Row}
+use Rattle.std.specs.Prelude.{Some}
 use Rattle.fields.specs.Fields.{fields, owner_bit, owns, field_at}
 use Rattle.fields.proofs.Computed.{other, given, every, below, at_number}
 use Rattle.fields.proofs.Registers.{owner_below, found_test, found_covered}
@@ -22,7 +22,7 @@ abbrev pub settled : ℕ → Bool
 settled part = eqb part 2 || (eqb part 3 || eqb part 5)
 
 -- the row of a register, where it can be written
-module _ (r : ℕ) (f : Field) (found : field_at r ≡ Row f) (writable : f.access ≡ 0 → ⊥) where
+module _ (r : ℕ) (f : Field) (found : field_at r ≡ Some f) (writable : f.access ≡ 0 → ⊥) where
   abbrev o : ℕ
   o = f.offset
 

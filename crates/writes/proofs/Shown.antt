@@ -9,7 +9,7 @@ use borrow.Author.Tests.{eqb-true}
 use Rattle.floats.specs.Floats.{pattern}
 use Rattle.floats.proofs.Bools.{no}
 use Rattle.fields.specs.declared.Field.{Field}
-use Rattle.fields.specs.Fields.Found.{Row}
+use Rattle.std.specs.Prelude.{Some}
 use Rattle.fields.specs.Fields.{field_at}
 use Rattle.fields.proofs.Writable.{device_written_lem}
 use Rattle.sensors.specs.declared.Setup.{Setup}
@@ -27,7 +27,7 @@ use Rattle.writes.proofs.Rows.{one_word_holds, level_sensor}
 use Rattle.writes.proofs.Contents.{Takes, effect, write_stores}
 
 -- a sensor's write that is stored, of a field of the map that isn't read-only and isn't the command
-module _ (s : Setup) (r : ℕ) (f : Field) (found : field_at r ≡ Row f) (writable : f.access ≡ 0 → ⊥) (value : f.offset ≡ 5 → ⊥)
+module _ (s : Setup) (r : ℕ) (f : Field) (found : field_at r ≡ Some f) (writable : f.access ≡ 0 → ⊥) (value : f.offset ≡ 5 → ⊥)
     (high low : ℕ) (context : Context) (t : Setup) (e : write_of (r / 100) s f high low context ≡ Stored t) (x : Sample) where
   takes : Takes (r / 100) s t f.offset high low
   takes = effect (r / 100) s r f found writable value high low context t e
@@ -73,7 +73,7 @@ device_after d w =
     }
 
 -- a write that isn't refused, of any field of the map that isn't read-only and isn't a sensor's command
-module _ (d : Device) (s : Setup) (r : ℕ) (f : Field) (found : field_at r ≡ Row f) (writable : f.access ≡ 0 → ⊥) (value : f.offset ≡ 5 → ⊥)
+module _ (d : Device) (s : Setup) (r : ℕ) (f : Field) (found : field_at r ≡ Some f) (writable : f.access ≡ 0 → ⊥) (value : f.offset ≡ 5 → ⊥)
     (high low : ℕ) (context : Context) (x : Sample) where
   -- what the register of the field's owner at an offset then shows
   abbrev pub reads : Written → ℕ → ℕ

@@ -10,8 +10,7 @@ use Rattle.methods.specs.Methods.{method_of, candidate_of, verdict_of, judged_of
 use Rattle.entries.specs.Entries.{method_allowed}
 use Rattle.parameters.specs.Parameters.{id_of, default_units}
 use Rattle.fields.specs.Fields.{owner_bit, owns, holds, field_at}
-use Rattle.fields.specs.Fields.{Found}
-use Rattle.fields.specs.Fields.Found.{Row, Absent}
+use Rattle.std.specs.Prelude.{Option, Some, None}
 use Rattle.sensors.specs.Sensors.{fresh_parameter, fresh_parameters, fresh_setup}
 use Rattle.sensors.specs.Changes.{new_procedure, restarted, calibrated_at}
 use Rattle.sensors.specs.declared.Setup.{Setup}
@@ -20,9 +19,9 @@ use Rattle.writes.specs.Writes.{method_written, trial_at, point_at, with_float, 
 use Rattle.commands.specs.declared.Written.{Written}
 use Rattle.commands.specs.declared.Written.TheVariants.{Refused, Failed, Stored, Updated, Technician}
 
-abbrev write_row : Found → ℕ → Setup → ℕ → ℕ → Bool → Written
-write_row (Row f) owner s high low spare = write_to owner s f high low (context 70000 spare 7)
-write_row Absent owner s high low spare = Refused 2
+abbrev write_row : Option Field → ℕ → Setup → ℕ → ℕ → Bool → Written
+write_row (Some f) owner s high low spare = write_to owner s f high low (context 70000 spare 7)
+write_row None owner s high low spare = Refused 2
 
 -- the field that a register begins, written at clock 70000 by technician 7
 abbrev write : Setup → ℕ → ℕ → ℕ → Bool → Written
