@@ -1,6 +1,6 @@
 -- A test that is computed over all numbers below a bound, or over all rows, holds of each of them, and so of the row that a search finds.
 -- Assumes nothing.
-use mathlib.Core.Path.{◌≡◌, refl, ap}
+use mathlib.Core.Path.{◌≡◌, refl, sym, ap}
 use mathlib.Core.Bool.{Bool, true, false, ◌&&◌, ◌||◌, not, cond, false≢true}
 use mathlib.Core.List.{List, [], ◌∷◌}
 use Prim.Native.Nat.{ℕ, zero, suc, ◌<◌, ◌≤◌}
@@ -28,6 +28,12 @@ pub not_read_only : (a : Access) → (a ≡ ReadOnly → ⊥) → is_read_only a
 not_read_only ReadOnly h = absurd (h refl)
 not_read_only Writable h = refl
 not_read_only Modal h = refl
+
+-- and what isn't read-only can be
+pub writable_access : (a : Access) → is_read_only a ≡ false → a ≡ ReadOnly → ⊥
+writable_access ReadOnly e q = false≢true (sym e)
+writable_access Writable e q = cc
+writable_access Modal e q = cc
 
 -- what the test for the mode's fields passes
 pub modal_access : (a : Access) → is_modal a ≡ true → a ≡ Modal
