@@ -1,7 +1,9 @@
 -- The commands of a calibration. One definition for the frame call and for the control book. Document 01, "Calibration", and the codes of
 -- "What is sent back": 0x92, 0x84, 0x97, 0xC0 in that order. Assumes nothing.
-use Rattle.std.specs.Prelude.{Bool, true, false, cond, List, [], ◌∷◌, ℕ, eqb, ltb}
-use Rattle.methods.specs.Methods.{method_of, judged_of, code_of as verdict_code}
+use Rattle.std.specs.Prelude.{Bool, true, false, cond, List, [], ◌∷◌, Option, Some, None, ℕ, eqb, ltb}
+use Rattle.refusals.specs.declared.codes.Code.{Code}
+use Rattle.refusals.specs.declared.codes.Code.TheVariants.{SensorMode, WriteValue, InvalidCalibration, JournalFull}
+use Rattle.methods.specs.Methods.{method_of, judged_of}
 use Rattle.methods.specs.declared.Method.{Method}
 use Rattle.methods.specs.declared.Verdict.{Verdict}
 use Rattle.methods.specs.declared.Verdict.TheVariants.{Accepted, OutsideLimits, NotFinite, Undefined}
@@ -24,13 +26,13 @@ context_of e = context e.clock (ltb e.used e.capacity) e.technician
 
 -- ---- an answer
 
--- document 01's code for each answer; 0 is no refusal
-abbrev pub code_of : Written → ℕ
-code_of (Refused code) = code
-code_of (Failed t) = 0x97
-code_of (Stored s) = 0
-code_of (Updated s e) = 0
-code_of (Technician n) = 0
+-- document 01's code for each answer, if it is a refusal
+abbrev pub code_of : Written → Option Code
+code_of (Refused code) = Some code
+code_of (Failed t) = Some InvalidCalibration
+code_of (Stored s) = None
+code_of (Updated s e) = None
+code_of (Technician n) = None
 
 -- the setup that an answer leaves, s being the one before; demand 1: "a code changes only the message counters", with the one exception of
 -- document 02, wish 2: "an update that is refused for its limits alone puts the candidate in the trial figures"
@@ -67,14 +69,14 @@ method_set s = method_of s.procedure.method s.procedure.trial s.procedure.points
 -- 02, wish 2: one refused for its limits alone is kept, "Equal points and results that aren't finite still change nothing"
 abbrev pub judged_update : ℕ → Setup → Context → Verdict → Written
 judged_update sensor s context (Accepted c) =
-    cond context.spare (Updated (calibrated_at s c context.clock) (entry_of sensor (method_set s) c context.clock context.technician)) (Refused 0xC0)
+    cond context.spare (Updated (calibrated_at s c context.clock) (entry_of sensor (method_set s) c context.clock context.technician)) (Refused JournalFull)
 judged_update sensor s context (OutsideLimits c) = Failed (with_trial s c)
-judged_update sensor s context NotFinite = Refused (verdict_code NotFinite)
-judged_update sensor s context Undefined = Refused (verdict_code Undefined)
+judged_update sensor s context NotFinite = Refused InvalidCalibration
+judged_update sensor s context Undefined = Refused InvalidCalibration
 
 -- "0xE001 (update): mode off is 0x92"
 unfoldable pub updated : ℕ → Setup → Context → Written
-updated sensor s context = cond s.procedure.calibrating (judged_update sensor s context (judged_of sensor (method_set s))) (Refused 0x92)
+updated sensor s context = cond s.procedure.calibrating (judged_update sensor s context (judged_of sensor (method_set s))) (Refused SensorMode)
 
 -- "Command 0xE000, mode off: mode on ..; Mode on: accepted, nothing changes", "0xE002: mode off ..; Mode off already: accepted, nothing changes";
 -- a value not listed is 0x84
@@ -83,7 +85,7 @@ commanded sensor s value context =
     cond (eqb value 0xE000) (cond s.procedure.calibrating (Stored s) (Stored (restarted s true)))
     (cond (eqb value 0xE001) (updated sensor s context)
     (cond (eqb value 0xE002) (cond s.procedure.calibrating (Stored (restarted s false)) (Stored s))
-    (Refused 0x84)))
+    (Refused WriteValue)))
 
 -- ---- an update that is refused
 

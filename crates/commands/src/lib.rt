@@ -8,7 +8,7 @@ ghost use Rattle.commands.specs.Commands.{context_of, updated, commanded, code_o
 
 use entries::{Entry, entry_of};
 use methods::{Verdict, judge, method_of};
-use refusals::codes;
+use refusals::codes::Code;
 use registers::Device;
 use sensors::Setup;
 
@@ -33,7 +33,7 @@ pub fn context_of(device: Device) -> Context
 
 #[derive(Clone, Copy)]
 pub enum Written {
-    Refused(u8),
+    Refused(Code),
     // An update that is refused for its limits alone (0x97), with its candidate in the trial coefficients.
     Failed(Setup),
     Stored(Setup),
@@ -42,16 +42,14 @@ pub enum Written {
     Technician(u16),
 }
 
-// 0, or the code that refuses the write.
-pub fn code_of(w: Written) -> u8
+// The code that refuses the write, if one does.
+pub fn code_of(w: Written) -> Option<Code>
     ensures { result ≡ code_of w }
 {
     match w {
-        Written::Refused(code) => code,
-        Written::Failed(_) => codes::INVALID_CALIBRATION,
-        Written::Stored(_) => 0,
-        Written::Updated(_, _) => 0,
-        Written::Technician(_) => 0,
+        Written::Refused(code) => Some(code),
+        Written::Failed(_) => Some(Code::InvalidCalibration),
+        _ => None,
     }
 }
 
@@ -86,7 +84,7 @@ fn update(sensor: u16, s: Setup, context: Context) -> Written
     let p = s.procedure;
     let calibrating = p.calibrating;
     if !calibrating {
-        return Written::Refused(codes::SENSOR_MODE);
+        return Written::Refused(Code::SensorMode);
     }
     let m = method_of(p.method, p.trial, p.points);
     let verdict = judge(sensor, m);
@@ -94,7 +92,7 @@ fn update(sensor: u16, s: Setup, context: Context) -> Written
         Verdict::Accepted(c) => {
             let spare = context.spare;
             if !spare {
-                return Written::Refused(codes::JOURNAL_FULL);
+                return Written::Refused(Code::JournalFull);
             }
             Written::Updated(
                 s.calibrate(c, context.clock),
@@ -102,7 +100,7 @@ fn update(sensor: u16, s: Setup, context: Context) -> Written
             )
         }
         Verdict::OutsideLimits(c) => Written::Failed(s.with_trial(c)),
-        _ => Written::Refused(methods::code_of(verdict)),
+        _ => Written::Refused(Code::InvalidCalibration),
     }
 }
 
@@ -126,6 +124,6 @@ pub fn command(sensor: u16, s: Setup, value: u16, context: Context) -> Written
             }
             Written::Stored(s)
         }
-        _ => Written::Refused(codes::WRITE_VALUE),
+        _ => Written::Refused(Code::WriteValue),
     }
 }

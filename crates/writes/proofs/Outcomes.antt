@@ -1,12 +1,15 @@
 -- What a write can come to, by cases: refused by one of four codes, an update that failed for its limits alone, one value stored, or an update.
 -- Assumes nothing.
 use mathlib.Core.Path.{◌≡◌, refl, subst}
+use Rattle.std.specs.Prelude.{Some, None}
 use mathlib.Core.Bool.{Bool, true, false, ◌&&◌, not}
 use Prim.Native.Nat.{ℕ, ◌≤◌}
 use native.Mathlib.Omega.{arith}
 use lib.Dec.{eqb, leb}
 use lib.Ieee.{Float}
 use borrow.Author.Tests.{eqb-true, leb-true}
+use Rattle.refusals.specs.declared.codes.Code.{Code}
+use Rattle.refusals.specs.declared.codes.Code.TheVariants.{SensorMode, WriteValue, InvalidCalibration, JournalFull}
 use Rattle.floats.specs.Floats.{pattern, float_of}
 use Rattle.floats.specs.declared.FloatOf.{FloatOf}
 use Rattle.floats.specs.declared.FloatOf.TheVariants.{Finite, NotFinite}
@@ -17,6 +20,7 @@ use Rattle.methods.specs.declared.Verdict.{Verdict}
 use Rattle.methods.specs.declared.Verdict.TheVariants.{Accepted, OutsideLimits, NotFinite as CandidateNotFinite, Undefined}
 use Rattle.entries.specs.Entries.{method_allowed, entry_of}
 use Rattle.parameters.specs.Parameters.{parameter_number, parameter_part, id_of, units_allowed, level_allowed}
+use Rattle.fields.specs.Fields.{is_modal}
 use Rattle.fields.specs.declared.Field.{Field}
 use Rattle.sensors.specs.Sensors.{parameter_of}
 use Rattle.sensors.specs.Changes.{procedure, active, with_procedure, with_active, with_parameters, with_trial, with_level, restarted, calibrated_at, with_parameter}
@@ -28,11 +32,17 @@ use Rattle.commands.specs.declared.Written.{Written}
 use Rattle.commands.specs.declared.Written.TheVariants.{Refused, Failed, Stored, Updated}
 
 -- the codes that refuse a write of a whole field
-pub data Code : ℕ → Type 0 where
-  mode_off : Code 0x92
-  not_listed : Code 0x84
-  not_accepted : Code 0x97
-  journal_full : Code 0xC0
+pub data Refuses : Code → Type 0 where
+  mode_off : Refuses SensorMode
+  not_listed : Refuses WriteValue
+  not_accepted : Refuses InvalidCalibration
+  journal_full : Refuses JournalFull
+
+pub some_same : {a b : Code} → Some a ≡ Some b → a ≡ b
+some_same e = cc
+
+pub none_some : {A : Type 0} {a : A} → None ≡ Some a → ⊥
+none_some e = cc
 
 -- the fields that hold a float: coefficients and points, and the sentinels, part 5 of each parameter
 pub data FloatAt (o : ℕ) : Type 0 where
@@ -58,7 +68,7 @@ pub data Change (sensor : ℕ) (s : Setup) (o high low : ℕ) : Setup → Type 0
 
 -- what a write comes to
 pub data Outcome (sensor : ℕ) (s : Setup) (o high low : ℕ) (context : Context) : Written → Type 0 where
-  refused : {code : ℕ} → Code code → Outcome sensor s o high low context (Refused code)
+  refused : {code : Code} → Refuses code → Outcome sensor s o high low context (Refused code)
   failed : (c : Coefficients) → o ≡ 5 → high ≡ 0xE001 → s.procedure.calibrating ≡ true → judged_of sensor (method_set s) ≡ OutsideLimits c
       → Outcome sensor s o high low context (Failed (with_trial s c))
   stored : {t : Setup} → Change sensor s o high low t → Outcome sensor s o high low context (Stored t)
@@ -121,7 +131,7 @@ pub write_outcome : (sensor : ℕ) (s : Setup) (f : Field) (high low : ℕ) (con
     → Outcome sensor s f.offset high low context (write_of sensor s f high low context)
 unfolding write_of
 write_outcome sensor s f high low context =
-    choose P (eqb f.access 2 && not s.procedure.calibrating) _ _ (λ e. refused mode_off) (λ e. field_outcome sensor s f.offset high low context)
+    choose P (is_modal f.access && not s.procedure.calibrating) _ _ (λ e. refused mode_off) (λ e. field_outcome sensor s f.offset high low context)
   where
     P : Written → Type 0
     P = Outcome sensor s f.offset high low context

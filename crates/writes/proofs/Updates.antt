@@ -16,6 +16,10 @@ use Rattle.methods.specs.declared.Verdict.TheVariants.{Accepted, OutsideLimits, 
 use Rattle.methods.proofs.Candidates.{accepted}
 use Rattle.entries.specs.Entries.{entry_of, replaced_by}
 use Rattle.entries.specs.declared.Entry.{Entry}
+use Rattle.std.specs.Prelude.{None}
+use Rattle.refusals.specs.declared.codes.Code.TheVariants.{SensorMode, JournalFull}
+use Rattle.fields.specs.Fields.{is_modal}
+use Rattle.fields.specs.declared.Access.TheVariants.{Writable}
 use Rattle.fields.specs.declared.Field.{Field}
 use Rattle.sensors.specs.Changes.{with_trial, calibrated_at}
 use Rattle.sensors.specs.declared.Setup.{Setup}
@@ -88,7 +92,7 @@ module _ (sensor : ℕ) (s : Setup) (f : Field) (high low : ℕ) (context : Cont
 -- ---- no update is refused without a reason
 
 -- an update in mode, of an accepted candidate and with room in the journal, is carried out
-pub update_accepted : (sensor : ℕ) (s : Setup) (f : Field) (low : ℕ) (context : Context) (c : Coefficients) → f.offset ≡ 5 → f.access ≡ 1
+pub update_accepted : (sensor : ℕ) (s : Setup) (f : Field) (low : ℕ) (context : Context) (c : Coefficients) → f.offset ≡ 5 → f.access ≡ Writable
     → s.procedure.calibrating ≡ true → judged_of sensor (method_set s) ≡ Accepted c → context.spare ≡ true
     → write_of sensor s f 0xE001 low context ≡ Updated (calibrated_at s c context.clock) (entry_of sensor (method_set s) c context.clock context.technician)
 unfolding write_of field_written commanded updated
@@ -99,9 +103,9 @@ pub update_fails : (sensor : ℕ) (s : Setup) (f : Field) (low : ℕ) (context :
     → s.procedure.calibrating ≡ true → judged_of sensor (method_set s) ≡ OutsideLimits c
     → write_of sensor s f 0xE001 low context ≡ Failed (with_trial s c)
 unfolding write_of field_written commanded updated
-update_fails sensor s f low context c o m j = rw (o, m, j) (go (eqb f.access 2) _)
+update_fails sensor s f low context c o m j = rw (o, m, j) (go (is_modal f.access) _)
   where
-    go : (modal : Bool) (w : Written) → cond (modal && false) (Refused 0x92) w ≡ w
+    go : (modal : Bool) (w : Written) → cond (modal && false) (Refused SensorMode) w ≡ w
     go true w = refl
     go false w = refl
 
@@ -115,10 +119,10 @@ module _ (sensor : ℕ) (s : Setup) (f : Field) (high low : ℕ) (context : Cont
   update_told : f.offset ≡ 5 → high ≡ 0xE001 → entries_of x ≡ accepted_update sensor s context
   unfolding write_of field_written commanded updated accepted_update
   update_told o u =
-      rw (o, u) (in-mode (eqb f.access 2) s.procedure.calibrating _
+      rw (o, u) (in-mode (is_modal f.access) s.procedure.calibrating _
       ∙ ap (λ (l : List Entry). cond s.procedure.calibrating l []) (judged (judged_of sensor (method_set s))))
     where
-      in-mode : (modal mode : Bool) (w : Written) → entries_of (cond (modal && not mode) (Refused 0x92) (cond mode w (Refused 0x92))) ≡ cond mode (entries_of w) []
+      in-mode : (modal mode : Bool) (w : Written) → entries_of (cond (modal && not mode) (Refused SensorMode) (cond mode w (Refused SensorMode))) ≡ cond mode (entries_of w) []
       in-mode true true w = refl
       in-mode true false w = refl
       in-mode false true w = refl
@@ -158,15 +162,15 @@ module _ (sensor : ℕ) (s : Setup) (f : Field) (high low : ℕ) (context : Cont
 
   -- an answer that is refused leaves the setup t
   abbrev Leaves : Setup → Written → Type 0
-  Leaves t w = (code_of w ≡ 0 → ⊥) → setup_after s w ≡ t
+  Leaves t w = (code_of w ≡ None → ⊥) → setup_after s w ≡ t
 
   -- the command 0xE001
   update_leaves : f.offset ≡ 5 → high ≡ 0xE001 → Leaves (refused_update sensor s) y
   unfolding write_of field_written commanded updated refused_update
-  update_leaves o u = rw (o, u) (in-mode (eqb f.access 2) s.procedure.calibrating _ (judged (judged_of sensor (method_set s))))
+  update_leaves o u = rw (o, u) (in-mode (is_modal f.access) s.procedure.calibrating _ (judged (judged_of sensor (method_set s))))
     where
       in-mode : (modal mode : Bool) (w : Written) {t : Setup} → Leaves t w
-          → Leaves (cond mode t s) (cond (modal && not mode) (Refused 0x92) (cond mode w (Refused 0x92)))
+          → Leaves (cond mode t s) (cond (modal && not mode) (Refused SensorMode) (cond mode w (Refused SensorMode)))
       in-mode true true w h = h
       in-mode true false w h = λ n. refl
       in-mode false true w h = h
@@ -195,7 +199,7 @@ module _ (sensor : ℕ) (s : Setup) (f : Field) (high low : ℕ) (context : Cont
       (λ e. let t = both (eqb f.offset 5) (eqb high 0xE001) e in update_leaves (eqb-true f.offset 5 t.0) (eqb-true high 0xE001 t.1)) other_leaves
 
 -- and journals nothing
-pub refused_journals : (w : Written) → (code_of w ≡ 0 → ⊥) → entries_of w ≡ []
+pub refused_journals : (w : Written) → (code_of w ≡ None → ⊥) → entries_of w ≡ []
 refused_journals (Refused code) n = refl
 refused_journals (Failed t) n = refl
 refused_journals (Stored t) n = absurd (n refl)
@@ -203,7 +207,7 @@ refused_journals (Updated t e) n = absurd (n refl)
 refused_journals (Technician m) n = refl
 
 -- and leaves the technician's number
-pub refused_technician : (m : ℕ) (w : Written) → (code_of w ≡ 0 → ⊥) → technician_after m w ≡ m
+pub refused_technician : (m : ℕ) (w : Written) → (code_of w ≡ None → ⊥) → technician_after m w ≡ m
 refused_technician m (Refused code) n = refl
 refused_technician m (Failed t) n = refl
 refused_technician m (Stored t) n = refl
@@ -215,7 +219,7 @@ refused_technician m (Technician k) n = absurd (n refl)
 -- two writes that differ in the journal's room alone: an update with room and 0xC0 without, or no difference
 data BySpare : Written → Written → Type 0 where
   equal : {w : Written} → BySpare w w
-  spent : {t : Setup} {e : Entry} → BySpare (Updated t e) (Refused 0xC0)
+  spent : {t : Setup} {e : Entry} → BySpare (Updated t e) (Refused JournalFull)
 
 choose_two : (b : Bool) (x y x' y' : Written) → BySpare x x' → BySpare y y' → BySpare (cond b x y) (cond b x' y')
 choose_two true x y x' y' f g = f
@@ -224,7 +228,7 @@ choose_two false x y x' y' f g = g
 by_spare : (sensor : ℕ) (s : Setup) (f : Field) (high low clock technician : ℕ) → BySpare (write_of sensor s f high low (context clock true technician)) (write_of sensor s f high low (context clock false technician))
 unfolding write_of field_written commanded updated
 by_spare sensor s f high low clock technician =
-    choose_two (eqb f.access 2 && not s.procedure.calibrating) _ _ _ _ equal
+    choose_two (is_modal f.access && not s.procedure.calibrating) _ _ _ _ equal
     (choose_two (eqb f.offset 3) _ _ _ _ equal
     (choose_two (eqb f.offset 5) _ _ _ _
     (choose_two (eqb high 0xE000) _ _ _ _ equal
@@ -239,10 +243,10 @@ by_spare sensor s f high low clock technician =
 
 -- what is an update with room in the journal is 0xC0 without
 pub spare_needed : (sensor : ℕ) (s : Setup) (f : Field) (high low clock technician : ℕ) (t : Setup) (e : Entry) → write_of sensor s f high low (context clock true technician) ≡ Updated t e
-    → write_of sensor s f high low (context clock false technician) ≡ Refused 0xC0
+    → write_of sensor s f high low (context clock false technician) ≡ Refused JournalFull
 spare_needed sensor s f high low clock technician t e = of (by_spare sensor s f high low clock technician) (update_facts sensor s f high low (context clock false technician) t e)
   where
-    of : {x y : Written} → BySpare x y → (y ≡ Updated t e → Update sensor s f high (context clock false technician) t e) → x ≡ Updated t e → y ≡ Refused 0xC0
+    of : {x y : Written} → BySpare x y → (y ≡ Updated t e → Update sensor s f high (context clock false technician) t e) → x ≡ Updated t e → y ≡ Refused JournalFull
     of equal u w = let z : false ≡ true = (u w).has_room in absurd (no z)
     of spent u w = refl
 
