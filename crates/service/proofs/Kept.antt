@@ -28,9 +28,11 @@ use Rattle.journal.proofs.Stores.{spare_parts, append_all, append_none}
 use Rattle.journal.proofs.Facts.{valid_length, valid_last}
 use Rattle.journal.proofs.Kept.{append_keeps, append_used, begin_keeps as begin-words}
 use Rattle.audit.specs.Audit.{replayed}
-use Rattle.audit.specs.declared.Replayed.{Replayed}
-use Rattle.audit.specs.declared.Replayed.TheVariants.{Invalid, Valid}
-use Rattle.sensors.specs.Changes.{sensor_with_setup}
+use Rattle.std.specs.Prelude.{Result, Ok, Err}
+use Rattle.refusals.specs.Numbers.{number_of}
+use Rattle.refusals.specs.declared.numbers.Refusal.{Refusal}
+use Rattle.journal.specs.declared.Calibrations.{Calibrations}
+use Rattle.sensors.specs.Changes.{raws_of, sensor_with_setup}
 use Rattle.sensors.specs.declared.Setup.{Setup}
 use Rattle.sensors.specs.declared.Sensor.{Sensor}
 use Rattle.registers.specs.Registers.{sensor_register}
@@ -85,9 +87,9 @@ power_up_number : (address : ℕ) (w : List ℕ) → MadeKeeps (power_up_of addr
 unfolding power_up_of
 power_up_number address w = choose MadeKeeps (address_valid address) _ _ (λ e. of (replayed w)) (λ e. rejected_keeps 1)
   where
-    of : (r : Replayed) → MadeKeeps (powered_by address r)
-    of Invalid h = rejected_keeps 4 h
-    of (Valid o) h = absurd (h refl)
+    of : (r : Result Calibrations Refusal) → MadeKeeps (powered_by address r)
+    of (Err refusal) h = rejected_keeps (number_of refusal) h
+    of (Ok o) h = absurd (h refl)
 
 begin_number : (d : Sonde) (w : List ℕ) → ((begin_of d w).number ≡ 0 → ⊥) → begin_of d w ≡ begun (made (begin_of d w).number d) w
 unfolding begin_of
@@ -103,7 +105,7 @@ measure_number d s present raw1 raw2 =
     choose P (valid_sonde d) _ _
     (λ e. choose P (ltb s 1) _ _ (λ f h. refl)
     (λ f. choose P (ltb 4 s) _ _ (λ g h. refl)
-    (λ g. choose P (raws_finite s present raw1 raw2) _ _ (λ i h. absurd (h refl)) (λ i h. refl))))
+    (λ g. choose P (raws_finite s (raws_of present raw1 raw2)) _ _ (λ i h. absurd (h refl)) (λ i h. refl))))
     (λ e h. refl)
   where
     P : SondeMade → Type 0

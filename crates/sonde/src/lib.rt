@@ -57,7 +57,7 @@ pub fn sonde_frame(
     ensures answers_bytes { AnswersBytes sonde frame.now reply.old volume.old (arrival clock ascii) }
 {
     let agreed = sonde.is_valid()
-        & consistency::journal_agrees(consistency::opening(sonde), volume);
+        & consistency::journal_agrees(&consistency::opening(&sonde), volume);
     if let Err(refusal) = admission::admit(ascii, reply.len(), agreed) {
         return SondeFrame {
             number: u8::from(refusal),
