@@ -8,6 +8,7 @@ use methods::Points;
 use service::SondeMade;
 use state::Sonde;
 use text::character;
+use words::Halves;
 
 // The sonde, the clock of its frames, how many words its volume has, how many bytes of the reply buffer its frames are lent, and what the
 // last call gave: its number, and the length of a frame's reply, the entries in use of an audit, the words that a salvage changed, or a word
@@ -26,14 +27,14 @@ pub struct Scene {
 fn word(spelled: &[u8], at: usize) -> u16
     requires { at ≤ 64 }
 {
-    words::word(character(spelled, at), character(spelled, at + 1))
+    u16::join(character(spelled, at), character(spelled, at + 1))
 }
 
 // The time that begins at a byte.
 fn time(spelled: &[u8], at: usize) -> u32
     requires { at ≤ 62 }
 {
-    (word(spelled, at) as u32) * 65536 + (word(spelled, at + 2) as u32)
+    u32::join(word(spelled, at), word(spelled, at + 2))
 }
 
 // How many words at the start of the volume are lent where n are to be: none if it has fewer.

@@ -9,7 +9,7 @@ ghost use Rattle.words.specs.Overlay.{overlay};
 ghost use Rattle.printout.specs.Printout.{unsound, printout_of};
 
 use refusals::numbers;
-use words::word;
+use words::Halves;
 
 // The most bytes of a file that is printed, its words, and the most bytes that are written for a file: the lines of 1000 entries.
 pub const MOST_BYTES: usize = 48128;
@@ -26,7 +26,7 @@ fn put_words(words: &mut [u16], bytes: &[u8])
     let count = bytes.len() / 2;
     let mut i = 0;
     while i < count {
-        words[i] = word(bytes[2 * i], bytes[2 * i + 1]);
+        words[i] = u16::join(bytes[2 * i], bytes[2 * i + 1]);
         i += 1;
     }
 }

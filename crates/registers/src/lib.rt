@@ -9,6 +9,7 @@ use coefficients::Coefficients;
 use methods::Points;
 use readings::Reading;
 use sensors::{Sensor, Setup};
+use words::Halves;
 
 // The values that the device's registers show.
 #[derive(Clone, Copy)]
@@ -20,20 +21,6 @@ pub struct Device {
     pub capacity: u16,
     pub used: u16,
     pub technician: u16,
-}
-
-// The first of the two words of a number of 32 bits.
-fn high(n: u32) -> u16
-    ensures { result ≡ n / 65536 }
-{
-    (n / 65536) as u16
-}
-
-// The second.
-fn low(n: u32) -> u16
-    ensures { result ≡ n % 65536 }
-{
-    (n % 65536) as u16
 }
 
 // The command register reads 1 in mode, else 0.
@@ -147,10 +134,10 @@ fn head_register(sensor: u16, setup: Setup, offset: u16) -> u16
     let c = active.calibration;
     match offset {
         0 => sensor,
-        1 => high(c.time),
-        2 => low(c.time),
-        3 => high(active.next),
-        4 => low(active.next),
+        1 => c.time.high(),
+        2 => c.time.low(),
+        3 => active.next.high(),
+        4 => active.next.low(),
         5 => mode(setup),
         6 => setup.procedure.method,
         7 => parameters::count(sensor),
@@ -181,8 +168,8 @@ pub fn device_register(d: Device, offset: u16) -> u16
     match offset {
         0 => 3,
         1 => 1,
-        2 => high(d.clock),
-        3 => low(d.clock),
+        2 => d.clock.high(),
+        3 => d.clock.low(),
         4 => d.good,
         5 => d.bad,
         6 => d.exceptions,

@@ -9,14 +9,16 @@ ghost use Rattle.words.specs.Overlay.{overlay};
 ghost use Rattle.framing.specs.Framing.{room_in};
 ghost use Rattle.replies.specs.Reply.{marked_of, read_body, written_body, exception_body, reply_of};
 
+use words::Halves;
+
 // Words from byte 3 on.
 fn put_words(reply: &mut [u8], words: &[u16])
     requires { 3 + 2 * length words.now ≤ length reply.old }
     ensures { reply.new ≡ sets reply.old 3 (bytes_of words.now) }
 {
     for i in 0..words.len() {
-        reply[3 + 2 * i] = words::high(words[i]);
-        reply[4 + 2 * i] = words::low(words[i]);
+        reply[3 + 2 * i] = words[i].high();
+        reply[4 + 2 * i] = words[i].low();
     }
 }
 

@@ -26,8 +26,10 @@ use Rattle.journal.proofs.Stores.{spare_parts, append_all, append_none}
 use Rattle.journal.proofs.Facts.{valid_length, valid_last}
 use Rattle.journal.proofs.Kept.{append_keeps, append_used, begin_keeps as begin-words}
 use Rattle.audit.specs.Audit.{replayed}
-use Rattle.audit.specs.declared.Replayed.{Replayed}
-use Rattle.audit.specs.declared.Replayed.TheVariants.{Invalid, Valid}
+use Rattle.std.specs.Prelude.{Result, Ok, Err}
+use Rattle.refusals.specs.Numbers.{number_of}
+use Rattle.refusals.specs.declared.numbers.Refusal.{Refusal}
+use Rattle.journal.specs.declared.Calibrations.{Calibrations}
 use Rattle.sensors.specs.Changes.{sensor_with_setup}
 use Rattle.sensors.specs.declared.Setup.{Setup}
 use Rattle.sensors.specs.declared.Sensor.{Sensor}
@@ -83,9 +85,9 @@ power_up_number : (address : ℕ) (w : List ℕ) → MadeKeeps (power_up_of addr
 unfolding power_up_of
 power_up_number address w = choose MadeKeeps (address_valid address) _ _ (λ e. of (replayed w)) (λ e. rejected_keeps 1)
   where
-    of : (r : Replayed) → MadeKeeps (powered_by address r)
-    of Invalid h = rejected_keeps 4 h
-    of (Valid o) h = absurd (h refl)
+    of : (r : Result Calibrations Refusal) → MadeKeeps (powered_by address r)
+    of (Err refusal) h = rejected_keeps (number_of refusal) h
+    of (Ok o) h = absurd (h refl)
 
 begin_number : (d : Sonde) (w : List ℕ) → ((begin_of d w).number ≡ 0 → ⊥) → begin_of d w ≡ begun (made (begin_of d w).number d) w
 unfolding begin_of

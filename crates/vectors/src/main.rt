@@ -10,6 +10,7 @@ ghost use Rattle.std.specs.Prelude.{◌≡◌, length};
 use std::io;
 use text::tally;
 use text::tally::Tally;
+use words::Halves;
 
 // The checksum that a frame carries, its last two bytes, low byte first; 0 where it has no two.
 fn sent(frame: &[u8]) -> u16 {
@@ -17,7 +18,7 @@ fn sent(frame: &[u8]) -> u16 {
     if n < 2 {
         return 0;
     }
-    words::word(frame[n - 1], frame[n - 2])
+    u16::join(frame[n - 1], frame[n - 2])
 }
 
 // The verdict, both checksums, and the line as it was read.
@@ -100,7 +101,7 @@ fn sweep_lengths() -> Tally {
 
 // Whether the round of a sum and a word is the table's step of the low byte and then of the high byte.
 fn is_round(sum: u16, word: u16) -> bool {
-    rtu::crc::round(sum, word) == table::step(table::step(sum, words::low(word)), words::high(word))
+    rtu::crc::round(sum, word) == table::step(table::step(sum, word.low()), word.high())
 }
 
 // Every sum, each with a word of its own.

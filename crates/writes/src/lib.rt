@@ -12,14 +12,14 @@ use fields::{Field, MODAL};
 use methods::Points;
 use refusals::codes;
 use sensors::{Parameters, Setup};
+use words::Halves;
 
 // The next calibration's time.
 #[tactic(auto, unfolding(crate::specs::Writes::next_written))]
 fn write_next(mut s: Setup, high: u16, low: u16) -> Written
     ensures { result ≡ next_written s high low }
 {
-    let next = (high as u32) * 65536 + (low as u32);
-    s.active.next = next;
+    s.active.next = u32::join(high, low);
     Written::Stored(s)
 }
 

@@ -5,7 +5,7 @@ use Rattle.printout.proofs.put_words.Goals as goal
 pub loop-i-preserved : goal.loop-i-preserved
 loop-i-preserved c =
     let a = c.args in
-    (search rules, search rules, search rules, words_again c.loop-i.words a.bytes.now c.loop-i.i _ _ (search rules) c.word.ensures c.loop-i.invariant.3)
+    (search rules, search rules, search rules, words_again c.loop-i.words a.bytes.now c.loop-i.i _ _ (search rules) c.join.ensures c.loop-i.invariant.3)
 
 pub returns : goal.returns
 returns c =

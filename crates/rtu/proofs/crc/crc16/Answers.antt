@@ -20,6 +20,6 @@ loop-i-preserved c =
     let h : k + 1 < length s = omega arith in
     let n : k + 2 ≡ 2 * (at.i + 1) = omega arith in
     let b = c.type_inv.bytes k in
-    let r = c.round-sum.ensures ∙ ap (crc_word at.sum) c.word.ensures in
+    let r = c.round-sum.ensures ∙ ap (crc_word at.sum) c.join.ensures in
     let w = sym (crc_from_word s at.sum k c.round-sum.result h b.fits r) ∙ at.invariant.3 in
     (refl, refl, omega arith, sym (ap (λ (m : ℕ). crc_from c.round-sum.result (drop m s)) n) ∙ w)
