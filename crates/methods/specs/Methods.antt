@@ -1,5 +1,5 @@
 -- The methods of calibration and the verdict on an update. Document 01, "Calibration", 0xE001. Assumes nothing.
-use Rattle.std.specs.Prelude.{cond, ℕ, eqb, Float, Result, Ok, Err}
+use Rattle.std.specs.Prelude.{cond, ℕ, eqb, Float, List, [], ◌∷◌, Result, Ok, Err}
 use Rattle.std.specs.Float.{binary32}
 use Rattle.std.specs.Float.Ieee.{sub, mul, div, eq}
 use Rattle.floats.specs.Floats.{plus_zero}
@@ -18,6 +18,10 @@ use Rattle.refusals.specs.declared.codes.Code.TheVariants.{InvalidCalibration}
 
 abbrev pub points : Float → Float → Float → Float → Points
 points a b c d = record { x1 = a; y1 = b; x2 = c; y2 = d }
+
+-- in their order
+abbrev pub values_of : Points → List Float
+values_of p = p.x1 ∷ p.y1 ∷ p.x2 ∷ p.y2 ∷ []
 
 -- "direct (0)", "one point (1)", "two points (2)": the number that names each method in registers and entries
 abbrev pub method_number : Method → ℕ

@@ -3,7 +3,7 @@
 #![tactic(auto)]
 
 ghost use Rattle.std.specs.Prelude.{◌≡◌, Ok};
-ghost use Rattle.methods.specs.Methods.{method_of, method_number, points_of, candidate_of, verdict_of, judged_of, code_by};
+ghost use Rattle.methods.specs.Methods.{method_of, method_number, values_of, points_of, candidate_of, verdict_of, judged_of, code_by};
 ghost use Rattle.methods.specs.declared.Rejection.TheVariants.{Undefined as UndefinedBy};
 
 use coefficients::{Coefficients, in_limits};
@@ -17,6 +17,15 @@ pub struct Points {
     pub y1: f32,
     pub x2: f32,
     pub y2: f32,
+}
+
+impl Points {
+    // In their order.
+    pub fn values(self) -> [f32; 4]
+        ensures { result ≡ values_of self }
+    {
+        [self.x1, self.y1, self.x2, self.y2]
+    }
 }
 
 // Direct carries the three trial coefficients, one point x1 and y1, two points x1, y1, x2 and y2.
@@ -66,7 +75,7 @@ impl From<Rejection> for Code {
     }
 }
 
-// The method that a method register's number names: 1 and 2, else direct.
+// The method that a method register's number names: 1 and 2, else direct. No `From`: it is made of three values.
 #[tactic(auto, unfolding(crate::specs::Methods::method_of))]
 pub fn method_of(number: u16, trial: Coefficients, points: Points) -> Method
     ensures { result ≡ method_of number trial points }
