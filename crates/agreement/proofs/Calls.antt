@@ -22,6 +22,7 @@ use Rattle.journal.proofs.Tests.{sensor_cases, four_intro}
 use Rattle.journal.proofs.Holds.{begin_holds}
 use Rattle.audit.specs.Audit.{replayed}
 use Rattle.sensors.specs.Sensors.{powered_setup}
+use Rattle.sensors.specs.Changes.{raws_of}
 use Rattle.sensors.specs.declared.Setup.{Setup}
 use Rattle.sensors.proofs.Setups.{valid_setup_parts}
 use Rattle.state.specs.Sonde.{setup_at, address_valid, valid_sonde}
@@ -57,8 +58,8 @@ measure_keeps {x} {b} h s present raw1 raw2 = record { never_refused = go.0; inv
         choose P (valid_sonde x.sonde) _ _
         (λ v. choose P (ltb s 1) _ _ (λ l. (refl, h))
         (λ l. choose P (ltb 4 s) _ _ (λ g. (refl, h))
-        (λ g. choose P (raws_finite s present raw1 raw2) _ _
-        (λ f. (refl, record { matches = measured h.matches s (ltb-false s 1 l, ltb-false 4 s g) present raw1 raw2 f; holds = h.holds; followed = h.followed }))
+        (λ g. choose P (raws_finite s (raws_of present raw1 raw2)) _ _
+        (λ f. (refl, record { matches = measured h.matches s (ltb-false s 1 l, ltb-false 4 s g) (raws_of present raw1 raw2) f; holds = h.holds; followed = h.followed }))
         (λ f. (refl, h)))))
         (λ v. absurd (no (sym v ∙ sonde_valid h.matches)))
 

@@ -3,10 +3,10 @@
 use mathlib.Core.Path.{◌≡◌, refl}
 use mathlib.Core.Bool.{Bool, true, false, ◌&&◌, cond}
 use mathlib.Core.List.{List, [], ◌∷◌}
+use Rattle.std.specs.Prelude.{Option, Some}
 use Prim.Native.Nat.{ℕ, ◌-◌}
 use native.Mathlib.Omega.{arith}
 use lib.Dec.{eqb}
-use lib.Ieee.{Float}
 use lib.ListN.{length, get_or, set, length-set}
 use lib.Seq.{set-get_or}
 use borrow.Author.Tests.{eqb-true}
@@ -17,6 +17,7 @@ use Rattle.journal.specs.Replay.{replay_of, replays}
 use Rattle.journal.proofs.Tests.{sensor_cases, replaced_at}
 use Rattle.sensors.specs.Sensors.{fresh_setup, powered_setup, fresh_sensor, valid_setup, valid_sensor}
 use Rattle.sensors.specs.Changes.{measured_sensor, sensor_with_setup}
+use Rattle.sensors.specs.declared.Raws.{Raws}
 use Rattle.sensors.specs.declared.Setup.{Setup}
 use Rattle.sensors.specs.declared.Sensor.{Sensor}
 use Rattle.sensors.proofs.Setups.{SetupFits, valid_setup_parts, valid_sensor_parts, powered_valid, powered_fits, fresh_fits, fresh_sensor-valid}
@@ -71,14 +72,14 @@ setup_replaced ys s t y n k j = replaced_at ys s t y no_sensor.setup (omega arit
 -- ---- measurements and calibrations
 
 -- a measurement reads the second raw for sensor 1 only, and none where the sensor isn't present
-raws_read : (s : ℕ) (present : Bool) (raw1 raw2 : Float) → raws_finite s present raw1 raw2 ≡ true
-    → (present ≡ true → finite raw1 ≡ true) × (present ≡ true → s ≡ 1 → finite raw2 ≡ true)
+raws_read : (s : ℕ) (raws : Option Raws) → raws_finite s raws ≡ true
+    → ((r : Raws) → raws ≡ Some r → finite r.raw1 ≡ true) × ((r : Raws) → raws ≡ Some r → s ≡ 1 → finite r.raw2 ≡ true)
 unfolding raws_finite
-raws_read s present raw1 raw2 f = (λ p. go (eqb s 1) (rw p at f), λ p o. (both (finite raw1) (finite raw2) (rw (p, o) at f)).1)
+raws_read s raws f = (λ r p. go r (eqb s 1) (rw p at f), λ r p o. (both (finite r.raw1) (finite r.raw2) (rw (p, o) at f)).1)
   where
-    go : (b : Bool) → cond b (finite raw1 && finite raw2) (finite raw1) ≡ true → finite raw1 ≡ true
-    go true e = (both (finite raw1) (finite raw2) e).0
-    go false e = e
+    go : (r : Raws) (b : Bool) → cond b (finite r.raw1 && finite r.raw2) (finite r.raw1) ≡ true → finite r.raw1 ≡ true
+    go r true e = (both (finite r.raw1) (finite r.raw2) e).0
+    go r false e = e
 
 -- a sensor powered up with the calibration of a valid setup
 powered_matches : (s : ℕ) → IsSensor s → (x : Setup) → valid_setup s x ≡ true → SetupFits x
@@ -171,20 +172,19 @@ module _ {d : Sonde} {address technician : ℕ} {ys : List Setup} (m : Matches d
       replaced s k _ y (record { setup_is = refl; valid_sensor_holds = rw (v, t.1, t.2); fits = f })
 
   -- a measurement of finite raws
-  pub measured : (s : ℕ) → IsSensor s → (present : Bool) (raw1 raw2 : Float) → raws_finite s present raw1 raw2 ≡ true
-      → Matches (measured_at d s present raw1 raw2) address technician ys
+  pub measured : (s : ℕ) → IsSensor s → (raws : Option Raws) → raws_finite s raws ≡ true → Matches (measured_at d s raws) address technician ys
   unfolding measured_at measured_sensor setup_at setup_of
-  measured s k present raw1 raw2 f =
+  measured s k raws f =
       rw (set-get_or ys (s - 1) no_sensor.setup) at
       (replaced s k _ (get_or ys (s - 1) no_sensor.setup)
       (record {
         setup_is = (m.each s k).setup_is;
-        valid_sensor_holds = measured_valid s (sensor_at d s) present raw1 raw2 (m.each s k).valid_sensor_holds raws.0 raws.1;
+        valid_sensor_holds = measured_valid s (sensor_at d s) raws (m.each s k).valid_sensor_holds read.0 read.1;
         fits = (m.each s k).fits;
       }))
     where
-      raws : (present ≡ true → finite raw1 ≡ true) × (present ≡ true → s ≡ 1 → finite raw2 ≡ true)
-      raws = raws_read s present raw1 raw2 f
+      read : ((r : Raws) → raws ≡ Some r → finite r.raw1 ≡ true) × ((r : Raws) → raws ≡ Some r → s ≡ 1 → finite r.raw2 ≡ true)
+      read = raws_read s raws f
 
   -- a power-up from a volume whose replay is the calibrations in force
   pub powered_up : (a : ℕ) (w : List ℕ) → address_valid a ≡ true → ((s : ℕ) → IsSensor s → replay_of w s ≡ (setup_at d s).active.calibration)

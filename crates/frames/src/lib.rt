@@ -76,8 +76,8 @@ fn answer(
             reads::read(
                 reply,
                 own,
-                reads::device(counters, technician, volume, arrival),
-                sensor,
+                &reads::device(counters, technician, volume, arrival),
+                &sensor,
                 start,
                 count,
             ),

@@ -10,6 +10,8 @@ use Rattle.sensors.specs.declared.Setup.{Setup}
 use Rattle.sensors.specs.declared.Sample.{Sample}
 use Rattle.sensors.specs.declared.Sensor.{Sensor}
 use Rattle.readings.specs.declared.Reading.{Reading}
+use Rattle.readings.specs.declared.Quality.{Quality}
+use Rattle.readings.specs.declared.Quality.TheVariants.{Good, NotFinite, Calibrating, Absent}
 
 -- "figure 1 + (figure 2 × raw)"
 abbrev pub linear : Calibration → Float → Float
@@ -65,13 +67,20 @@ worked_from sensor k = cond (eqb sensor 1 && eqb k 3) 2 (cond (eqb sensor 3 && e
 abbrev pub shown_of : ℕ → Sensor → ℕ → Float
 shown_of sensor s k = converted (parameter_of s.setup.parameters k).units (value_of sensor s.setup s.sample k)
 
-abbrev pub shown_as : ℕ → Float → Reading
+abbrev pub shown_as : Quality → Float → Reading
 shown_as quality value = record { quality = quality; value = value }
 
--- "Quality: 7 never measured or not present; else 3 not finite; else 6 in mode; else 0. At 7 and 3 the value is the sentinel."
+-- "Quality: 7 never measured or not present; else 3 not finite; else 6 in mode; else 0."
+abbrev pub number_of : Quality → ℕ
+number_of Absent = 7
+number_of NotFinite = 3
+number_of Calibrating = 6
+number_of Good = 0
+
+-- in that order; "At 7 and 3 the value is the sentinel."
 unfoldable pub graded_reading : Bool → Bool → Bool → Float → Float → Reading
 graded_reading present is_finite calibrating shown sentinel =
-    cond present (cond is_finite (cond calibrating (shown_as 6 shown) (shown_as 0 shown)) (shown_as 3 sentinel)) (shown_as 7 sentinel)
+    cond present (cond is_finite (cond calibrating (shown_as Calibrating shown) (shown_as Good shown)) (shown_as NotFinite sentinel)) (shown_as Absent sentinel)
 
 -- a parameter is finite where its value as shown is, and that of the one it is worked from before its conversion
 unfoldable pub reading_of : ℕ → Sensor → ℕ → Reading

@@ -3,28 +3,52 @@
 #![tactic(auto)]
 
 ghost use Rattle.std.specs.Prelude.{◌≡◌};
-ghost use Rattle.readings.specs.Readings.{height_of, resistivity_of, level_of_id, calibrated_of, pressure_of, level_of, conductivity_value, level_value, value_of, worked_from, graded_reading, reading_of};
+ghost use Rattle.readings.specs.Readings.{number_of, height_of, resistivity_of, level_of_id, calibrated_of, pressure_of, level_of, conductivity_value, level_value, value_of, worked_from, graded_reading, reading_of};
 
 use coefficients::Calibration;
 use sensors::{Sample, Sensor, Setup};
 
-// What a parameter shows. Quality: 0 good, 3 not finite, 6 in mode, 7 never measured or not present; at 3 and 7 the value is the sentinel.
+// How good a reading is.
+#[derive(Clone, Copy, Debug, PartialEq, Eq)]
+pub enum Quality {
+    Good,
+    NotFinite,
+    // In mode.
+    Calibrating,
+    // Never measured or not present.
+    Absent,
+}
+
+// The number that a register shows.
+impl From<Quality> for u16 {
+    ghost from_gives = { λ quality number. number ≡ number_of quality };
+
+    fn from(quality: Quality) -> u16 {
+        match quality {
+            Quality::Good => 0,
+            Quality::NotFinite => 3,
+            Quality::Calibrating => 6,
+            Quality::Absent => 7,
+        }
+    }
+}
+
+// What a parameter shows; not finite and absent, the value is the sentinel.
 #[derive(Clone, Copy)]
 pub struct Reading {
-    pub quality: u16,
+    pub quality: Quality,
     pub value: f32,
 }
 
 // Sensors 1, 2 and 4: the first raw, calibrated; in mode the raw itself.
 #[tactic(auto, unfolding(crate::specs::Readings::calibrated_of))]
-pub fn calibrated(setup: Setup, raw: f32) -> f32
-    ensures { result ≡ calibrated_of setup raw }
+pub fn calibrated(setup: &Setup, raw: f32) -> f32
+    ensures { result ≡ calibrated_of setup.now raw }
 {
-    let calibrating = setup.procedure.calibrating;
-    if calibrating {
+    if setup.procedure.calibrating {
         return raw;
     }
-    let c = setup.active.calibration;
+    let c = &setup.active.calibration;
     c.coefficient1 + c.coefficient2 * raw
 }
 
@@ -46,8 +70,8 @@ fn height(p: f32) -> f32
 
 // The level by its id, out of mode: 3 depth, 4 drawdown, 5 elevation.
 #[tactic(auto, unfolding(crate::specs::Readings::level_of_id))]
-fn level_of_id(id: u16, pressure: f32, c: Calibration) -> f32
-    ensures { result ≡ level_of_id id pressure c }
+fn level_of_id(id: u16, pressure: f32, c: &Calibration) -> f32
+    ensures { result ≡ level_of_id id pressure c.now }
 {
     match id {
         4 => c.coefficient2 - height(pressure - c.coefficient3),
@@ -58,26 +82,23 @@ fn level_of_id(id: u16, pressure: f32, c: Calibration) -> f32
 
 // The pressure with the offset taken off; in mode the raw itself.
 #[tactic(auto, unfolding(crate::specs::Readings::pressure_of))]
-pub fn pressure(setup: Setup, raw: f32) -> f32
-    ensures { result ≡ pressure_of setup raw }
+pub fn pressure(setup: &Setup, raw: f32) -> f32
+    ensures { result ≡ pressure_of setup.now raw }
 {
-    let calibrating = setup.procedure.calibrating;
-    if calibrating {
+    if setup.procedure.calibrating {
         return raw;
     }
-    let c = setup.active.calibration;
-    raw - c.coefficient1
+    raw - setup.active.calibration.coefficient1
 }
 
 // The level; in mode the height of the pressure with the offset taken off.
 #[tactic(auto, unfolding(crate::specs::Readings::level_of))]
-pub fn level(setup: Setup, raw: f32) -> f32
-    ensures { result ≡ level_of setup raw }
+pub fn level(setup: &Setup, raw: f32) -> f32
+    ensures { result ≡ level_of setup.now raw }
 {
-    let calibrating = setup.procedure.calibrating;
-    let c = setup.active.calibration;
+    let c = &setup.active.calibration;
     let measured = raw - c.coefficient1;
-    if calibrating {
+    if setup.procedure.calibrating {
         return height(measured);
     }
     level_of_id(setup.parameters.level, measured, c)
@@ -85,8 +106,8 @@ pub fn level(setup: Setup, raw: f32) -> f32
 
 // Sensor 1: temperature, conductivity, resistivity.
 #[tactic(auto, unfolding(crate::specs::Readings::conductivity_value))]
-fn conductivity_value(setup: Setup, sample: Sample, k: u16) -> f32
-    ensures { result ≡ conductivity_value setup sample k }
+fn conductivity_value(setup: &Setup, sample: &Sample, k: u16) -> f32
+    ensures { result ≡ conductivity_value setup.now sample.now k }
 {
     match k {
         1 => sample.raw2,
@@ -97,8 +118,8 @@ fn conductivity_value(setup: Setup, sample: Sample, k: u16) -> f32
 
 // Sensor 3: pressure, level.
 #[tactic(auto, unfolding(crate::specs::Readings::level_value))]
-fn level_value(setup: Setup, sample: Sample, k: u16) -> f32
-    ensures { result ≡ level_value setup sample k }
+fn level_value(setup: &Setup, sample: &Sample, k: u16) -> f32
+    ensures { result ≡ level_value setup.now sample.now k }
 {
     match k {
         1 => pressure(setup, sample.raw1),
@@ -108,8 +129,8 @@ fn level_value(setup: Setup, sample: Sample, k: u16) -> f32
 
 // The value of parameter k before its conversion.
 #[tactic(auto, unfolding(crate::specs::Readings::value_of))]
-pub fn value(sensor: u16, setup: Setup, sample: Sample, k: u16) -> f32
-    ensures { result ≡ value_of sensor setup sample k }
+pub fn value(sensor: u16, setup: &Setup, sample: &Sample, k: u16) -> f32
+    ensures { result ≡ value_of sensor setup.now sample.now k }
 {
     match sensor {
         1 => conductivity_value(setup, sample, k),
@@ -139,37 +160,36 @@ fn graded(present: bool, good: bool, calibrating: bool, shown: f32, sentinel: f3
 {
     if !present {
         return Reading {
-            quality: 7,
+            quality: Quality::Absent,
             value: sentinel,
         };
     }
     if !good {
         return Reading {
-            quality: 3,
+            quality: Quality::NotFinite,
             value: sentinel,
         };
     }
     if calibrating {
         return Reading {
-            quality: 6,
+            quality: Quality::Calibrating,
             value: shown,
         };
     }
     Reading {
-        quality: 0,
+        quality: Quality::Good,
         value: shown,
     }
 }
 
 // The reading of parameter k of a sensor.
 #[tactic(auto, unfolding(crate::specs::Readings::reading_of))]
-pub fn reading_of(sensor: u16, s: Sensor, k: u16) -> Reading
-    ensures { result ≡ reading_of sensor s k }
+pub fn reading_of(sensor: u16, s: &Sensor, k: u16) -> Reading
+    ensures { result ≡ reading_of sensor s.now k }
 {
-    let setup = s.setup;
-    let sample = s.sample;
-    let q = setup.parameters;
-    let p = q.parameter(k);
+    let setup = &s.setup;
+    let sample = &s.sample;
+    let p = setup.parameters.parameter(k);
     let source = value(sensor, setup, sample, worked_from(sensor, k));
     let shown = parameters::convert(p.units, value(sensor, setup, sample, k));
     let good = floats::is_finite(source) & floats::is_finite(shown);

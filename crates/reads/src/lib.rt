@@ -31,8 +31,8 @@ pub fn device(c: Counters, technician: u16, volume: &[u16], arrival: Arrival) ->
 // A register by its owner, 0 for the device or a sensor's number, and its offset.
 #[tactic(auto, unfolding(registers::specs::Registers::register_of))]
 #[inline(never)]
-fn register_of(owner: u16, device: Device, sensor: Sensor, offset: u16) -> u16
-    ensures { result ≡ register_of owner device sensor offset }
+fn register_of(owner: u16, device: &Device, sensor: &Sensor, offset: u16) -> u16
+    ensures { result ≡ register_of owner device.now sensor.now offset }
 {
     if owner == 0 {
         return registers::device_register(device, offset);
@@ -41,9 +41,9 @@ fn register_of(owner: u16, device: Device, sensor: Sensor, offset: u16) -> u16
 }
 
 // An owner's registers from an offset on, as many as there are words.
-fn fill(words: &mut [u16], owner: u16, device: Device, sensor: Sensor, offset: u16)
+fn fill(words: &mut [u16], owner: u16, device: &Device, sensor: &Sensor, offset: u16)
     requires { offset + length words.old ≤ 65536 }
-    ensures { words.new ≡ shown_from (register_of owner device sensor) offset (length words.old) }
+    ensures { words.new ≡ shown_from (register_of owner device.now sensor.now) offset (length words.old) }
 {
     for i in 0..words.len() {
         words[i] = register_of(owner, device, sensor, offset + (i as u16));
@@ -54,14 +54,14 @@ fn fill(words: &mut [u16], owner: u16, device: Device, sensor: Sensor, offset: u
 pub fn read(
     reply: &mut [u8],
     address: u8,
-    device: Device,
-    sensor: Sensor,
+    device: &Device,
+    sensor: &Sensor,
     start: u16,
     count: u16,
 ) -> usize
     requires { (256 ≤ length reply.old) × (count ≤ 125) × (start % 100 + count ≤ 100) }
-    ensures value { result ≡ length (owned_body address device sensor start count) }
-    ensures reply_after { reply.new ≡ overlay (owned_body address device sensor start count) reply.old }
+    ensures value { result ≡ length (owned_body address device.now sensor.now start count) }
+    ensures reply_after { reply.new ≡ overlay (owned_body address device.now sensor.now start count) reply.old }
 {
     let mut words: [u16; 125] = [0; 125];
     let n = count as usize;

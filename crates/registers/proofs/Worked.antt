@@ -8,7 +8,7 @@ use Rattle.floats.specs.Floats.{near, plus_zero, finite, high_word, low_word}
 use Rattle.coefficients.specs.Coefficients.{coefficients, defaults_of}
 use Rattle.parameters.specs.Parameters.{id_of, default_units, converted}
 use Rattle.sensors.specs.Sensors.{parameter_of, fresh_parameter, fresh_parameters, fresh_setup, fresh_sample}
-use Rattle.sensors.specs.Changes.{with_parameters, with_level, new_procedure, calibrated_at, measured_of}
+use Rattle.sensors.specs.Changes.{with_parameters, with_level, new_procedure, calibrated_at, raws_of, measured_of}
 use Rattle.sensors.specs.declared.Setup.{Setup}
 use Rattle.sensors.specs.declared.Sensor.{Sensor}
 use Rattle.readings.specs.Readings.{calibrated_of, resistivity_of, height_of, level_of_id, pressure_of, level_of, conductivity_value, level_value, value_of, worked_from, graded_reading, reading_of}
@@ -20,7 +20,7 @@ registers sensor s o zero = []
 registers sensor s o (suc n) = sensor_register sensor s o ∷ registers sensor s (suc o) n
 
 abbrev measured : ℕ → Setup → Float → Float → Sensor
-measured sensor s raw1 raw2 = record { setup = s; sample = measured_of fresh_sample sensor true raw1 raw2 }
+measured sensor s raw1 raw2 = record { setup = s; sample = measured_of fresh_sample sensor (raws_of true raw1 raw2) }
 
 -- sensor 1 with cell offset 1.0 and constant 0.5
 abbrev calibrated : Setup

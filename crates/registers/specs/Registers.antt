@@ -8,7 +8,7 @@ use Rattle.parameters.specs.Parameters.{count_of, parameter_number, parameter_pa
 use Rattle.sensors.specs.Sensors.{parameter_of}
 use Rattle.sensors.specs.declared.Setup.{Setup}
 use Rattle.sensors.specs.declared.Sensor.{Sensor}
-use Rattle.readings.specs.Readings.{reading_of}
+use Rattle.readings.specs.Readings.{number_of, reading_of}
 use Rattle.readings.specs.declared.Reading.{Reading}
 use Rattle.registers.specs.declared.Device.{Device}
 
@@ -41,7 +41,7 @@ shown_id sensor s k = cond (eqb sensor 3 && eqb k 2) s.parameters.level (id_of s
 
 -- "+0 value", "+4 quality": what the registers of a reading show
 unfoldable pub reading_register : Reading → ℕ → ℕ
-reading_register r part = cond (eqb part 0) (high_word r.value) (cond (eqb part 1) (low_word r.value) r.quality)
+reading_register r part = cond (eqb part 0) (high_word r.value) (cond (eqb part 1) (low_word r.value) (number_of r.quality))
 
 -- "+0 value, +2 id, +3 units (W), +4 quality, +5 sentinel (W, default 0.0), +7 available units"
 unfoldable pub parameter_register : ℕ → Sensor → ℕ → ℕ → ℕ

@@ -25,26 +25,20 @@ pub struct Device {
 
 // The command register reads 1 in mode, else 0.
 #[tactic(auto, unfolding(crate::specs::Registers::mode_of))]
-fn mode(setup: Setup) -> u16
-    ensures { result ≡ mode_of setup }
+fn mode(setup: &Setup) -> u16
+    ensures { result ≡ mode_of setup.now }
 {
-    let calibrating = setup.procedure.calibrating;
-    if calibrating {
-        return 1;
-    }
-    0
+    u16::from(setup.procedure.calibrating)
 }
 
 // The coefficients that are shown: the trial ones in mode, else the active ones.
 #[tactic(auto, unfolding(crate::specs::Registers::shown_coefficients))]
-fn shown_coefficients(setup: Setup) -> Coefficients
-    ensures { result ≡ shown_coefficients setup }
+fn shown_coefficients(setup: &Setup) -> Coefficients
+    ensures { result ≡ shown_coefficients setup.now }
 {
-    let c = setup.active.calibration;
-    let settled = c.coefficients();
+    let settled = setup.active.calibration.coefficients();
     let trial = setup.procedure.trial;
-    let calibrating = setup.procedure.calibrating;
-    if !calibrating {
+    if !setup.procedure.calibrating {
         return settled;
     }
     trial
@@ -52,8 +46,8 @@ fn shown_coefficients(setup: Setup) -> Coefficients
 
 // Offsets 10 to 15.
 #[tactic(auto, unfolding(crate::specs::Registers::coefficient_register))]
-fn coefficient_register(c: Coefficients, offset: u16) -> u16
-    ensures { result ≡ coefficient_register c offset }
+fn coefficient_register(c: &Coefficients, offset: u16) -> u16
+    ensures { result ≡ coefficient_register c.now offset }
 {
     match offset {
         10 => floats::high_word(c.coefficient1),
@@ -68,8 +62,8 @@ fn coefficient_register(c: Coefficients, offset: u16) -> u16
 
 // Offsets 16 to 23.
 #[tactic(auto, unfolding(crate::specs::Registers::point_register))]
-fn point_register(p: Points, offset: u16) -> u16
-    ensures { result ≡ point_register p offset }
+fn point_register(p: &Points, offset: u16) -> u16
+    ensures { result ≡ point_register p.now offset }
 {
     match offset {
         16 => floats::high_word(p.x1),
@@ -86,8 +80,8 @@ fn point_register(p: Points, offset: u16) -> u16
 
 // The id of parameter k; the level's is the one that is set.
 #[tactic(auto, unfolding(crate::specs::Registers::shown_id))]
-fn shown_id(sensor: u16, setup: Setup, k: u16) -> u16
-    ensures { result ≡ shown_id sensor setup k }
+fn shown_id(sensor: u16, setup: &Setup, k: u16) -> u16
+    ensures { result ≡ shown_id sensor setup.now k }
 {
     if (sensor == 3) & (k == 2) {
         return setup.parameters.level;
@@ -103,18 +97,17 @@ fn reading_register(r: Reading, part: u16) -> u16
     match part {
         0 => floats::high_word(r.value),
         1 => floats::low_word(r.value),
-        _ => r.quality,
+        _ => u16::from(r.quality),
     }
 }
 
 // One of the eight registers of parameter k. The reading is worked out for its own registers alone.
 #[tactic(auto, unfolding(crate::specs::Registers::parameter_register))]
-fn parameter_register(sensor: u16, s: Sensor, k: u16, part: u16) -> u16
-    ensures { result ≡ parameter_register sensor s k part }
+fn parameter_register(sensor: u16, s: &Sensor, k: u16, part: u16) -> u16
+    ensures { result ≡ parameter_register sensor s.now k part }
 {
-    let setup = s.setup;
-    let q = setup.parameters;
-    let p = q.parameter(k);
+    let setup = &s.setup;
+    let p = setup.parameters.parameter(k);
     match part {
         2 => shown_id(sensor, setup, k),
         3 => p.units,
@@ -127,11 +120,11 @@ fn parameter_register(sensor: u16, s: Sensor, k: u16, part: u16) -> u16
 
 // Offsets 0 to 9.
 #[tactic(auto, unfolding(crate::specs::Registers::head_register))]
-fn head_register(sensor: u16, setup: Setup, offset: u16) -> u16
-    ensures { result ≡ head_register sensor setup offset }
+fn head_register(sensor: u16, setup: &Setup, offset: u16) -> u16
+    ensures { result ≡ head_register sensor setup.now offset }
 {
-    let active = setup.active;
-    let c = active.calibration;
+    let active = &setup.active;
+    let c = &active.calibration;
     match offset {
         0 => sensor,
         1 => c.time.high(),
@@ -147,14 +140,14 @@ fn head_register(sensor: u16, setup: Setup, offset: u16) -> u16
 
 // A register of a sensor, by its offset; 0 where the map has none.
 #[tactic(auto, unfolding(crate::specs::Registers::sensor_register))]
-pub fn sensor_register(sensor: u16, s: Sensor, offset: u16) -> u16
-    ensures { result ≡ sensor_register sensor s offset }
+pub fn sensor_register(sensor: u16, s: &Sensor, offset: u16) -> u16
+    ensures { result ≡ sensor_register sensor s.now offset }
 {
-    let setup = s.setup;
+    let setup = &s.setup;
     match offset {
         0..=9 => head_register(sensor, setup, offset),
-        10..=15 => coefficient_register(shown_coefficients(setup), offset),
-        16..=23 => point_register(setup.procedure.points, offset),
+        10..=15 => coefficient_register(&shown_coefficients(setup), offset),
+        16..=23 => point_register(&setup.procedure.points, offset),
         30..=53 => parameter_register(sensor, s, (offset - 30) / 8 + 1, (offset - 30) % 8),
         _ => 0,
     }
@@ -162,8 +155,8 @@ pub fn sensor_register(sensor: u16, s: Sensor, offset: u16) -> u16
 
 // A register of the device; 0 where the map has none.
 #[tactic(auto, unfolding(crate::specs::Registers::device_register))]
-pub fn device_register(d: Device, offset: u16) -> u16
-    ensures { result ≡ device_register d offset }
+pub fn device_register(d: &Device, offset: u16) -> u16
+    ensures { result ≡ device_register d.now offset }
 {
     match offset {
         0 => 3,

@@ -4,7 +4,7 @@ use mathlib.Core.Bool.{Bool, true, false, ◌&&◌, cond}
 use Prim.Native.Nat.{ℕ, zero, suc, ◌≤◌}
 use native.Mathlib.Omega.{arith}
 use lib.Dec.{T, eqb}
-use lib.Ieee.{Float, binary32, fits}
+use lib.Ieee.{binary32, fits}
 use borrow.Author.Tests.{eqb-true}
 use Rattle.floats.specs.Floats.{finite}
 use Rattle.floats.proofs.Bools.{choose}
@@ -18,6 +18,8 @@ use Rattle.sensors.specs.declared.Parameter.{Parameter}
 use Rattle.sensors.specs.declared.Parameters.{Parameters}
 use Rattle.sensors.specs.declared.Procedure.{Procedure}
 use Rattle.sensors.specs.declared.Setup.{Setup}
+use Rattle.sensors.specs.declared.Raws.{Raws}
+use Rattle.std.specs.Prelude.{Option, Some, None}
 use Rattle.sensors.specs.declared.Sensor.{Sensor}
 use Rattle.sensors.proofs.Setups.{ValidParameters, ProcedureFits, ParametersFit, SetupFits, valid_calibration_lem, valid_procedure_parts, valid-procedure, valid_parameters_parts, valid-parameters, valid_setup_parts, valid-setup, active_parts, valid_sensor_parts, new_procedure-valid, new_procedure_fits}
 
@@ -87,20 +89,20 @@ unfolding units_valid
 units_listed s k units u = choose (λ t. t ≡ true) (eqb (id_of s k) 0) _ _ (λ e. refl) (λ e. u)
 
 -- a measurement of finite raws, of those that it reads, keeps a sensor valid
-pub measured_valid : (s : ℕ) (x : Sensor) (present : Bool) (raw1 raw2 : Float) → valid_sensor s x ≡ true
-    → (present ≡ true → finite raw1 ≡ true) → (present ≡ true → s ≡ 1 → finite raw2 ≡ true)
-    → valid_sensor s (measured_sensor x s present raw1 raw2) ≡ true
+pub measured_valid : (s : ℕ) (x : Sensor) (raws : Option Raws) → valid_sensor s x ≡ true
+    → ((r : Raws) → raws ≡ Some r → finite r.raw1 ≡ true) → ((r : Raws) → raws ≡ Some r → s ≡ 1 → finite r.raw2 ≡ true)
+    → valid_sensor s (measured_sensor x s raws) ≡ true
 unfolding valid_sensor measured_sensor measured_of
-measured_valid s x present raw1 raw2 h a b = go present a b (eqb s 1) refl
+measured_valid s x None h a b = h
+measured_valid s x (Some r) h a b = go (eqb s 1) refl
   where
-    go : (p : Bool) → (p ≡ true → finite raw1 ≡ true) → (p ≡ true → s ≡ 1 → finite raw2 ≡ true) → (q : Bool) → eqb s 1 ≡ q
+    go : (q : Bool) → eqb s 1 ≡ q
         → (valid_setup s x.setup
-        && finite (cond p (cond q (sample p raw1 raw2) (sample p raw1 x.sample.raw2)) (sample p x.sample.raw1 x.sample.raw2)).raw1
-        && finite (cond p (cond q (sample p raw1 raw2) (sample p raw1 x.sample.raw2)) (sample p x.sample.raw1 x.sample.raw2)).raw2)
+        && finite (cond q (sample true r.raw1 r.raw2) (sample true r.raw1 x.sample.raw2)).raw1
+        && finite (cond q (sample true r.raw1 r.raw2) (sample true r.raw1 x.sample.raw2)).raw2)
         ≡ true
-    go false a b q e = h
-    go true a b true e = rw ((valid_sensor_parts s x h).0, a refl, b refl (eqb-true s 1 e))
-    go true a b false e = rw ((valid_sensor_parts s x h).0, a refl, (valid_sensor_parts s x h).2)
+    go true e = rw ((valid_sensor_parts s x h).0, a r refl, b r refl (eqb-true s 1 e))
+    go false e = rw ((valid_sensor_parts s x h).0, a r refl, (valid_sensor_parts s x h).2)
 
 -- ---- floats of the format
 

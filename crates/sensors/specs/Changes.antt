@@ -1,6 +1,6 @@
 -- The parts of a sensor's state, and what changes in them. Document 01, "Calibration" and "Sonde and calls" ("Measure stores the raws that it
 -- reads"). Assumes nothing.
-use Rattle.std.specs.Prelude.{Bool, cond, ℕ, eqb, Float}
+use Rattle.std.specs.Prelude.{Bool, true, false, cond, ℕ, eqb, Float, Option, Some, None}
 use Rattle.floats.specs.Floats.{plus_zero}
 use Rattle.coefficients.specs.Coefficients.{calibration_of, coefficients_of}
 use Rattle.methods.specs.Methods.{points}
@@ -13,6 +13,7 @@ use Rattle.sensors.specs.declared.Procedure.{Procedure}
 use Rattle.sensors.specs.declared.Active.{Active}
 use Rattle.sensors.specs.declared.Setup.{Setup}
 use Rattle.sensors.specs.declared.Sample.{Sample}
+use Rattle.sensors.specs.declared.Raws.{Raws}
 use Rattle.sensors.specs.declared.Sensor.{Sensor}
 
 -- ---- the parts of a setup
@@ -74,20 +75,24 @@ with_parameter q k p =
 
 -- ---- a measurement
 
+-- the raws that a sensor gives, none where it isn't present
+abbrev pub raws_of : Bool → Float → Float → Option Raws
+raws_of present raw1 raw2 = cond present (Some (record { raw1 = raw1; raw2 = raw2 })) None
+
 abbrev pub sample : Bool → Float → Float → Sample
 sample present raw1 raw2 = record { present = present; raw1 = raw1; raw2 = raw2 }
 
 -- "Measure stores the raws that it reads; not present, it reads none and keeps the old"; "the second is read for sensor 1 only"
-unfoldable pub measured_of : Sample → ℕ → Bool → Float → Float → Sample
-measured_of x sensor present raw1 raw2 =
-    cond present (cond (eqb sensor 1) (sample present raw1 raw2) (sample present raw1 x.raw2)) (sample present x.raw1 x.raw2)
+unfoldable pub measured_of : Sample → ℕ → Option Raws → Sample
+measured_of x sensor None = sample false x.raw1 x.raw2
+measured_of x sensor (Some r) = cond (eqb sensor 1) (sample true r.raw1 r.raw2) (sample true r.raw1 x.raw2)
 
 abbrev pub sensor_of : Setup → Sample → Sensor
 sensor_of s x = record { setup = s; sample = x }
 
 -- "Methods with self and mut self on sonde and sensor, handing the state back": a measurement keeps the setup
-unfoldable pub measured_sensor : Sensor → ℕ → Bool → Float → Float → Sensor
-measured_sensor x sensor present raw1 raw2 = sensor_of x.setup (measured_of x.sample sensor present raw1 raw2)
+unfoldable pub measured_sensor : Sensor → ℕ → Option Raws → Sensor
+measured_sensor x sensor raws = sensor_of x.setup (measured_of x.sample sensor raws)
 
 -- and a new setup keeps the sample
 unfoldable pub sensor_with_setup : Sensor → Setup → Sensor

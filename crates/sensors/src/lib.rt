@@ -64,6 +64,13 @@ pub struct Sample {
     pub raw2: f32,
 }
 
+// The raw values that a measurement of a sensor which is present reads.
+#[derive(Clone, Copy)]
+pub struct Raws {
+    pub raw1: f32,
+    pub raw2: f32,
+}
+
 #[repr(C)]
 #[derive(Clone, Copy)]
 pub struct Sensor {
@@ -86,8 +93,8 @@ impl Parameter {
 
     // Units that are listed and a finite sentinel.
     #[tactic(auto, unfolding(crate::specs::Sensors::valid_parameter))]
-    fn is_valid(self, sensor: u16, k: u16) -> bool
-        ensures { result ≡ valid_parameter sensor k self }
+    fn is_valid(&self, sensor: u16, k: u16) -> bool
+        ensures { result ≡ valid_parameter sensor k self.now }
     {
         floats::is_finite(self.sentinel) & units_valid(sensor, k, self.units)
     }
@@ -108,8 +115,8 @@ impl Parameters {
 
     // Parameter 1, 2 or 3.
     #[tactic(auto, unfolding(crate::specs::Sensors::parameter_of))]
-    pub fn parameter(self, k: u16) -> Parameter
-        ensures { result ≡ parameter_of self k }
+    pub fn parameter(&self, k: u16) -> Parameter
+        ensures { result ≡ parameter_of self.now k }
     {
         match k {
             1 => self.parameter1,
@@ -132,16 +139,13 @@ impl Parameters {
     }
 
     #[tactic(auto, unfolding(crate::specs::Sensors::valid_parameters))]
-    fn is_valid(self, sensor: u16) -> bool
-        ensures { result ≡ valid_parameters sensor self }
+    fn is_valid(&self, sensor: u16) -> bool
+        ensures { result ≡ valid_parameters sensor self.now }
     {
-        let a = self.parameter1;
-        let b = self.parameter2;
-        let c = self.parameter3;
         level_valid(sensor, self.level)
-            & a.is_valid(sensor, 1)
-            & b.is_valid(sensor, 2)
-            & c.is_valid(sensor, 3)
+            & self.parameter1.is_valid(sensor, 1)
+            & self.parameter2.is_valid(sensor, 2)
+            & self.parameter3.is_valid(sensor, 3)
     }
 }
 
@@ -165,11 +169,10 @@ impl Procedure {
     }
 
     #[tactic(auto, unfolding(crate::specs::Sensors::valid_procedure))]
-    fn is_valid(self, sensor: u16) -> bool
-        ensures { result ≡ valid_procedure sensor self }
+    fn is_valid(&self, sensor: u16) -> bool
+        ensures { result ≡ valid_procedure sensor self.now }
     {
-        let trial = self.trial;
-        trial.is_finite() & points_finite(self.points) & method_allowed(sensor, self.method)
+        self.trial.is_finite() & points_finite(self.points) & method_allowed(sensor, self.method)
     }
 }
 
@@ -206,15 +209,12 @@ impl Setup {
 
     // Document 01: what a sound sonde asks of one sensor, its raw values left out.
     #[tactic(auto, unfolding(crate::specs::Sensors::valid_setup))]
-    pub fn is_valid(self, sensor: u16) -> bool
-        ensures { result ≡ valid_setup sensor self }
+    pub fn is_valid(&self, sensor: u16) -> bool
+        ensures { result ≡ valid_setup sensor self.now }
     {
-        let procedure = self.procedure;
-        let active = self.active;
-        let parameters = self.parameters;
-        calibration_valid(sensor, active.calibration)
-            & procedure.is_valid(sensor)
-            & parameters.is_valid(sensor)
+        calibration_valid(sensor, self.active.calibration)
+            & self.procedure.is_valid(sensor)
+            & self.parameters.is_valid(sensor)
     }
 
     // Mode on or off; the trial coefficients are those in force again, method 0 and points +0.0.
@@ -223,10 +223,7 @@ impl Setup {
     pub fn restart(mut self, calibrating: bool) -> Self
         ensures { result ≡ restarted self calibrating }
     {
-        let active = self.active;
-        let c = active.calibration;
-        let procedure = Procedure::new(calibrating, c.coefficients());
-        self.procedure = procedure;
+        self.procedure = Procedure::new(calibrating, self.active.calibration.coefficients());
         self
     }
 
@@ -234,9 +231,7 @@ impl Setup {
     pub fn with_trial(mut self, c: Coefficients) -> Self
         ensures { result ≡ with_trial self c }
     {
-        let mut procedure = self.procedure;
-        procedure.trial = c;
-        self.procedure = procedure;
+        self.procedure.trial = c;
         self
     }
 
@@ -246,11 +241,8 @@ impl Setup {
         ensures { result ≡ calibrated_at self c clock }
     {
         let mut s = self.with_trial(c);
-        let calibration = c.calibration(clock);
-        let mut active = s.active;
-        active.calibration = calibration;
-        active.next = 0;
-        s.active = active;
+        s.active.calibration = c.calibration(clock);
+        s.active.next = 0;
         s
     }
 }
@@ -268,16 +260,15 @@ impl Sample {
 
     // A measurement. The second raw is read for sensor 1 only; not present, none is read and the old ones stay.
     #[tactic(auto, unfolding(crate::specs::Changes::measured_of))]
-    pub fn measure(mut self, sensor: u16, present: bool, raw1: f32, raw2: f32) -> Self
-        ensures { result ≡ measured_of self sensor present raw1 raw2 }
+    pub fn measure(mut self, sensor: u16, raws: Option<Raws>) -> Self
+        ensures { result ≡ measured_of self sensor raws }
     {
-        self.present = present;
-        if !present {
-            return self;
-        }
-        self.raw1 = raw1;
-        if sensor == 1 {
-            self.raw2 = raw2;
+        self.present = raws.is_some();
+        if let Some(read) = raws {
+            self.raw1 = read.raw1;
+            if sensor == 1 {
+                self.raw2 = read.raw2;
+            }
         }
         self
     }
@@ -295,22 +286,20 @@ impl Sensor {
     }
 
     #[tactic(auto, unfolding(crate::specs::Sensors::valid_sensor))]
-    pub fn is_valid(self, sensor: u16) -> bool
-        ensures { result ≡ valid_sensor sensor self }
+    pub fn is_valid(&self, sensor: u16) -> bool
+        ensures { result ≡ valid_sensor sensor self.now }
     {
-        let setup = self.setup;
-        let sample = self.sample;
-        setup.is_valid(sensor) & floats::is_finite(sample.raw1) & floats::is_finite(sample.raw2)
+        self.setup.is_valid(sensor)
+            & floats::is_finite(self.sample.raw1)
+            & floats::is_finite(self.sample.raw2)
     }
 
     // A measurement; the setup stays.
     #[tactic(auto, unfolding(crate::specs::Changes::measured_sensor))]
-    pub fn measure(mut self, sensor: u16, present: bool, raw1: f32, raw2: f32) -> Self
-        ensures { result ≡ measured_sensor self sensor present raw1 raw2 }
+    pub fn measure(mut self, sensor: u16, raws: Option<Raws>) -> Self
+        ensures { result ≡ measured_sensor self sensor raws }
     {
-        let before = self.sample;
-        let sample = before.measure(sensor, present, raw1, raw2);
-        self.sample = sample;
+        self.sample = self.sample.measure(sensor, raws);
         self
     }
 

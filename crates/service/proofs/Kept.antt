@@ -30,7 +30,7 @@ use Rattle.std.specs.Prelude.{Result, Ok, Err}
 use Rattle.refusals.specs.Numbers.{number_of}
 use Rattle.refusals.specs.declared.numbers.Refusal.{Refusal}
 use Rattle.journal.specs.declared.Calibrations.{Calibrations}
-use Rattle.sensors.specs.Changes.{sensor_with_setup}
+use Rattle.sensors.specs.Changes.{raws_of, sensor_with_setup}
 use Rattle.sensors.specs.declared.Setup.{Setup}
 use Rattle.sensors.specs.declared.Sensor.{Sensor}
 use Rattle.registers.specs.Registers.{sensor_register}
@@ -103,7 +103,7 @@ measure_number d s present raw1 raw2 =
     choose P (valid_sonde d) _ _
     (λ e. choose P (ltb s 1) _ _ (λ f h. refl)
     (λ f. choose P (ltb 4 s) _ _ (λ g h. refl)
-    (λ g. choose P (raws_finite s present raw1 raw2) _ _ (λ i h. absurd (h refl)) (λ i h. refl))))
+    (λ g. choose P (raws_finite s (raws_of present raw1 raw2)) _ _ (λ i h. absurd (h refl)) (λ i h. refl))))
     (λ e h. refl)
   where
     P : SondeMade → Type 0

@@ -58,7 +58,7 @@ pub fn sonde_frame(
     ensures answers_bytes { AnswersBytes sonde frame.now reply.old volume.old (arrival clock ascii) }
 {
     let agreed = sonde.is_valid()
-        & consistency::journal_agrees(consistency::opening(sonde), volume);
+        & consistency::journal_agrees(&consistency::opening(&sonde), volume);
     let number = admission::number_of(ascii, reply.len(), agreed);
     if number != numbers::DONE {
         return SondeFrame {

@@ -1,10 +1,11 @@
 -- The state of a sonde: fresh, valid, and what changes in it. Document 01, "Sonde and calls", "The volume" ("A sonde is sound when ..") and
 -- "Frames" (the counters). Assumes nothing.
-use Rattle.std.specs.Prelude.{Bool, false, ◌&&◌, cond, List, [], ◌∷◌, ℕ, suc, ◌-◌, leb, ltb, Float, get_or, set}
+use Rattle.std.specs.Prelude.{Bool, false, ◌&&◌, cond, List, [], ◌∷◌, ℕ, suc, ◌-◌, leb, ltb, Option, get_or, set}
 use Rattle.std.specs.Float.{nan}
 use Rattle.sensors.specs.Sensors.{fresh_sensor, fresh_sample, powered_setup, valid_sensor}
 use Rattle.sensors.specs.Changes.{measured_sensor, sensor_with_setup}
 use Rattle.sensors.specs.declared.Setup.{Setup}
+use Rattle.sensors.specs.declared.Raws.{Raws}
 use Rattle.sensors.specs.declared.Sensor.{Sensor}
 use Rattle.coefficients.specs.declared.Calibration.{Calibration}
 use Rattle.journal.specs.declared.Calibrations.{Calibrations}
@@ -92,8 +93,8 @@ unfoldable pub with_technician : Sonde → ℕ → Sonde
 with_technician d n = sonde d.address n d.sensors d.counters
 
 -- "Measure stores the raws that it reads"
-unfoldable pub measured_at : Sonde → ℕ → Bool → Float → Float → Sonde
-measured_at d s present raw1 raw2 = with_sensor d s (measured_sensor (sensor_at d s) s present raw1 raw2)
+unfoldable pub measured_at : Sonde → ℕ → Option Raws → Sonde
+measured_at d s raws = with_sensor d s (measured_sensor (sensor_at d s) s raws)
 
 unfoldable pub counted_by : Event → Sonde → Sonde
 counted_by e d = sonde d.address d.technician d.sensors (counted e d.counters)

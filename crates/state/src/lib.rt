@@ -8,7 +8,7 @@ ghost use Rattle.state.specs.Sonde.{incremented, fresh_counters, counted, fresh_
 
 use coefficients::Calibration;
 use journal::Calibrations;
-use sensors::{Sample, Sensor, Setup};
+use sensors::{Raws, Sample, Sensor, Setup};
 
 // Messages that were good, bad, and refused by a code. Each stops at 65535.
 #[repr(C)]
@@ -34,14 +34,11 @@ pub struct Sonde {
 fn increment(n: u16) -> u16
     ensures { result ≡ incremented n }
 {
-    if n < 65535 {
-        return n + 1;
-    }
-    65535
+    n.saturating_add(1)
 }
 
 // How a frame counts. A refused one is also a good one; another's isn't counted.
-#[derive(Clone, Copy)]
+#[derive(Clone, Copy, Debug, PartialEq, Eq)]
 pub enum Event {
     Uncounted,
     Bad,
@@ -65,25 +62,15 @@ impl Counters {
         ensures { result ≡ counted event self }
     {
         match event {
-            Event::Uncounted => self,
-            Event::Bad => {
-                let n = increment(self.bad);
-                self.bad = n;
-                self
-            }
-            Event::Good => {
-                let n = increment(self.good);
-                self.good = n;
-                self
-            }
+            Event::Uncounted => {}
+            Event::Bad => self.bad = increment(self.bad),
+            Event::Good => self.good = increment(self.good),
             Event::Exception => {
-                let n = increment(self.good);
-                let m = increment(self.exceptions);
-                self.good = n;
-                self.exceptions = m;
-                self
+                self.good = increment(self.good);
+                self.exceptions = increment(self.exceptions);
             }
         }
+        self
     }
 }
 
@@ -144,26 +131,24 @@ impl Sonde {
 
     // Document 01: sound.
     #[tactic(auto, unfolding(crate::specs::Sonde::valid_sonde, crate::specs::Sonde::sensor_at))]
-    pub fn is_valid(self) -> bool
-        ensures { result ≡ valid_sonde self }
+    pub fn is_valid(&self) -> bool
+        ensures { result ≡ valid_sonde self.now }
     {
-        let a = self.sensors[0];
-        let b = self.sensors[1];
-        let c = self.sensors[2];
-        let d = self.sensors[3];
-        address_valid(self.address) & a.is_valid(1) & b.is_valid(2) & c.is_valid(3) & d.is_valid(4)
+        address_valid(self.address)
+            & self.sensors[0].is_valid(1)
+            & self.sensors[1].is_valid(2)
+            & self.sensors[2].is_valid(3)
+            & self.sensors[3].is_valid(4)
     }
 
     // A measurement of a sensor.
     #[tactic(auto, unfolding(crate::specs::Sonde::measured_at, crate::specs::Sonde::with_sensor, crate::specs::Sonde::sensor_at))]
-    pub fn measure(mut self, sensor: u16, present: bool, raw1: f32, raw2: f32) -> Self
+    pub fn measure(mut self, sensor: u16, raws: Option<Raws>) -> Self
         requires { IsSensor sensor }
-        ensures { result ≡ measured_at self sensor present raw1 raw2 }
+        ensures { result ≡ measured_at self sensor raws }
     {
         let i = (sensor as usize) - 1;
-        let before = self.sensors[i];
-        let after = before.measure(sensor, present, raw1, raw2);
-        self.sensors[i] = after;
+        self.sensors[i] = self.sensors[i].measure(sensor, raws);
         self
     }
 }

@@ -20,7 +20,7 @@ loop-i-preserved c =
       search rules,
       search rules,
       search rules,
-      rw (add-one, take-suc-set c.loop-i.words i c.register_of.result h, c.loop-i.invariant.3, c.register_of.ensures, shown_more (register_of a.owner a.device a.sensor) a.offset i),
+      rw (add-one, take-suc-set c.loop-i.words i c.register_of.result h, c.loop-i.invariant.3, c.register_of.ensures, shown_more (register_of a.owner a.device.now a.sensor.now) a.offset i),
     )
 
 pub returns : goal.returns

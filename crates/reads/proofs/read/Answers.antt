@@ -53,6 +53,6 @@ returns c =
     let a = c.args in
     let n = a.count in
     let h : n ≤ 125 = omega arith in
-    let w : take n (c.fill.new.words ++ drop n zeros) ≡ shown_from (register_of (a.start / 100) a.device a.sensor) (a.start % 100) n
+    let w : take n (c.fill.new.words ++ drop n zeros) ≡ shown_from (register_of (a.start / 100) a.device.now a.sensor.now) (a.start % 100) n
     = filled n c.fill.new.words h c.fill.auto.words ∙ c.fill.ensures ∙ rw (zeros-length n h) in
     record { value = c.put_read.ensures.value ∙ rw w; reply_after = c.put_read.ensures.reply_after ∙ rw w }
