@@ -3,7 +3,6 @@ ghost use Rattle.std.specs.Prelude.{◌≤◌};
 
 use coefficients::Calibration;
 use entries::Entry;
-use floats::FloatOf;
 use methods::Points;
 use service::SondeMade;
 use state::Sonde;
@@ -76,10 +75,7 @@ fn lent<T>(buffer: &mut [T], n: usize) -> &mut [T] {
 fn float(spelled: &[u8], at: usize) -> f32
     requires { at ≤ 62 }
 {
-    match floats::float_of(word(spelled, at), word(spelled, at + 2)) {
-        FloatOf::Finite(x) => x,
-        FloatOf::NotFinite => f32::from_bits(0x7F80_0000),
-    }
+    floats::float_of(word(spelled, at), word(spelled, at + 2)).unwrap_or(f32::INFINITY)
 }
 
 // The calibration of a line's entry.
