@@ -22,7 +22,7 @@ use Rattle.journal.specs.Valid.{valid_header, opening_at, valid_openings, valid_
 use Rattle.journal.specs.Journal.{on, firsts, lasts}
 use Rattle.recovery.specs.Salvage.{relinked, salvage_of}
 use Rattle.journal.specs.Replay.{replay_of, replays}
-use Rattle.parameters.specs.Parameters.{id_of, default_units, units_allowed, level_allowed}
+use Rattle.parameters.specs.Parameters.{quantity_of, level_allowed}
 use Rattle.fields.specs.Fields.{owner_bit, owns, holds, exactly, field_at, whole_field, span_of}
 use Rattle.sensors.specs.Sensors.{fresh_parameter, fresh_parameters, fresh_setup, fresh_sensor, units_valid, level_valid, valid_parameter, valid_parameters, valid_procedure, valid_setup, valid_sensor}
 use Rattle.sensors.specs.Changes.{new_procedure, restarted, calibrated_at, sensor_with_setup}
@@ -52,7 +52,7 @@ unfolding crc_bit crc_bits crc_byte crc_from crc_of checksum_of framed body_of i
     all_finite same_coefficients same_calibration defaults_of in_limits method_of candidate_of verdict_of judged_of
     method_allowed points_finite same_points valid_entry replaced_by capacity_of entry_words number_at float_at entry_at valid_calibration header begin_words stores_of spare_for append_up_to
     valid_header opening_at valid_openings valid_entry_at chain_of valid_link valid_chain valid_chains valid_entries valid replay_of replays
-    id_of default_units units_allowed level_allowed owner_bit owns holds exactly field_at whole_field span_of
+    quantity_of level_allowed owner_bit owns holds exactly field_at whole_field span_of
     new_procedure fresh_parameter fresh_parameters fresh_setup fresh_sensor units_valid level_valid valid_parameter valid_parameters valid_procedure valid_setup valid_sensor restarted calibrated_at sensor_with_setup
     mode_of shown_coefficients coefficient_register head_register sensor_register device_register register_of updated commanded
     method_written point_at with_float float_written field_written write_of device_written write_to target_of read_plan plan_of

@@ -10,7 +10,9 @@ use Rattle.coefficients.specs.declared.Coefficients.{Coefficients}
 use Rattle.methods.specs.Methods.{points}
 use Rattle.methods.specs.declared.Points.{Points}
 use Rattle.entries.specs.Entries.{method_allowed}
-use Rattle.parameters.specs.Parameters.{parameter_number, parameter_part, id_of, units_allowed, level_allowed}
+use Rattle.parameters.specs.Parameters.{parameter_number, parameter_part, quantity_of, units_allowed, level_allowed}
+use Rattle.std.specs.Option.{option_map_or}
+use Rattle.std.specs.Prelude.{false}
 use Rattle.fields.specs.declared.Field.{Field}
 use Rattle.sensors.specs.Sensors.{parameter_of}
 use Rattle.sensors.specs.Changes.{procedure, active, with_procedure, with_active, with_parameters, with_trial, with_points, with_level, with_parameter}
@@ -80,7 +82,7 @@ level_written s value =
 -- "+3 units (W)": one of the units that the table lists for this parameter
 unfoldable pub units_written : ℕ → Setup → ℕ → ℕ → Written
 units_written sensor s k value =
-    cond (units_allowed (id_of sensor k) value)
+    cond (option_map_or (λ q. units_allowed q value) (quantity_of sensor k) false)
     (Stored (with_parameters s (with_parameter s.parameters k (record { units = value; sentinel = (parameter_of s.parameters k).sentinel }))))
     (Refused 0x84)
 

@@ -11,6 +11,7 @@ use entries::method_allowed;
 use fields::{Field, MODAL};
 use floats::FloatOf;
 use methods::Points;
+use parameters::Quantity;
 use refusals::codes;
 use sensors::{Parameters, Setup};
 use words::Halves;
@@ -119,8 +120,8 @@ fn write_level(mut s: Setup, value: u16) -> Written
 fn write_units(sensor: u16, mut s: Setup, k: u16, value: u16) -> Written
     ensures { result ≡ units_written sensor s k value }
 {
-    let id = parameters::parameter_id(sensor, k);
-    if !parameters::units_allowed(id, value) {
+    let quantity = Quantity::of(sensor, k);
+    if !quantity.is_some_and(|quantity| quantity.allows(value)) {
         return Written::Refused(codes::WRITE_VALUE);
     }
     let q = s.parameters;
