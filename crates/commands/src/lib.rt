@@ -7,7 +7,7 @@ ghost use Rattle.std.specs.Prelude.{◌≡◌};
 ghost use Rattle.commands.specs.Commands.{context_of, updated, commanded, code_of, setup_after, technician_after};
 
 use entries::{Entry, entry_of};
-use methods::{Verdict, judge, method_of};
+use methods::{Rejection, judge, method_of};
 use refusals::codes::Code;
 use registers::Device;
 use sensors::Setup;
@@ -87,9 +87,8 @@ fn update(sensor: u16, s: Setup, context: Context) -> Written
         return Written::Refused(Code::SensorMode);
     }
     let m = method_of(p.method, p.trial, p.points);
-    let verdict = judge(sensor, m);
-    match verdict {
-        Verdict::Accepted(c) => {
+    match judge(sensor, m) {
+        Ok(c) => {
             let spare = context.spare;
             if !spare {
                 return Written::Refused(Code::JournalFull);
@@ -99,8 +98,8 @@ fn update(sensor: u16, s: Setup, context: Context) -> Written
                 entry_of(sensor, m, c, context.clock, context.technician),
             )
         }
-        Verdict::OutsideLimits(c) => Written::Failed(s.with_trial(c)),
-        _ => Written::Refused(Code::InvalidCalibration),
+        Err(Rejection::OutsideLimits(c)) => Written::Failed(s.with_trial(c)),
+        Err(rejection) => Written::Refused(Code::from(rejection)),
     }
 }
 

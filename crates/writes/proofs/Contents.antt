@@ -7,7 +7,7 @@ use native.Mathlib.Omega.{arith}
 use lib.Ieee.{Float, binary32, to_bits}
 use borrow.Author.Tests.{ne_eqb}
 use Rattle.floats.specs.Floats.{pattern, float_of, high_word, low_word}
-use Rattle.floats.specs.declared.FloatOf.TheVariants.{Finite}
+use Rattle.std.specs.Prelude.{Some}
 use Rattle.floats.proofs.Bools.{no}
 use Rattle.floats.proofs.Words.{float_and_back}
 use Rattle.parameters.specs.Parameters.{parameter_number, parameter_part}
@@ -39,7 +39,7 @@ pub record Takes (sensor : ℕ) (s t : Setup) (o high low : ℕ) : Type 0 where
   pub low_shown : (x : Sample) → one_word o ≡ false → sensor_register sensor (record { setup = t; sample = x }) (suc o) ≡ content_of t o % 65536
 
 -- the bits of a float are those of its words
-bits : (high low : ℕ) (x : Float) → float_of high low ≡ Finite x → high < 65536 → low < 65536 → to_bits binary32 x ≡ pattern high low
+bits : (high low : ℕ) (x : Float) → float_of high low ≡ Some x → high < 65536 → low < 65536 → to_bits binary32 x ≡ pattern high low
 unfolding high_word low_word
 bits high low x e hh hl = let b = float_and_back high low x hh hl e in omega arith
 

@@ -11,8 +11,9 @@ use Rattle.floats.proofs.Bools.{no, both, choose}
 use Rattle.coefficients.specs.Coefficients.{all_finite, coefficients_of, in_limits}
 use Rattle.methods.specs.Methods.{points_of, judged_of}
 use Rattle.coefficients.specs.declared.Coefficients.{Coefficients}
-use Rattle.methods.specs.declared.Verdict.{Verdict}
-use Rattle.methods.specs.declared.Verdict.TheVariants.{Accepted, OutsideLimits, NotFinite, Undefined}
+use Rattle.std.specs.Prelude.{Result, Ok, Err}
+use Rattle.methods.specs.declared.Rejection.{Rejection}
+use Rattle.methods.specs.declared.Rejection.TheVariants.{OutsideLimits, NotFinite, Undefined}
 use Rattle.methods.proofs.Candidates.{accepted}
 use Rattle.entries.specs.Entries.{entry_of, replaced_by}
 use Rattle.entries.specs.declared.Entry.{Entry}
@@ -38,7 +39,7 @@ pub record Update (sensor : ℕ) (s : Setup) (f : Field) (high : ℕ) (context :
   pub is_update_holds : high ≡ 0xE001
   pub mode_on_holds : s.procedure.calibrating ≡ true
   pub has_room : context.spare ≡ true
-  pub verdict_is : judged_of sensor (method_set s) ≡ Accepted (coefficients_of t.active.calibration)
+  pub verdict_is : judged_of sensor (method_set s) ≡ Ok (coefficients_of t.active.calibration)
   pub all_finite_holds : all_finite (coefficients_of t.active.calibration) ≡ true
   pub in_limits_holds : in_limits sensor (coefficients_of t.active.calibration) ≡ true
   pub time_is : t.active.calibration.time ≡ context.clock
@@ -56,7 +57,7 @@ module _ (sensor : ℕ) (s : Setup) (f : Field) (high low : ℕ) (context : Cont
   unfolding calibrated_at replaced_by
   update_facts w = of (write_outcome sensor s f high low context) w
     where
-      made : (c : Coefficients) → f.offset ≡ 5 → high ≡ 0xE001 → s.procedure.calibrating ≡ true → context.spare ≡ true → judged_of sensor (method_set s) ≡ Accepted c
+      made : (c : Coefficients) → f.offset ≡ 5 → high ≡ 0xE001 → s.procedure.calibrating ≡ true → context.spare ≡ true → judged_of sensor (method_set s) ≡ Ok c
           → Update sensor s f high context (calibrated_at s c context.clock) (entry_of sensor (method_set s) c context.clock context.technician)
       made c i u m r j =
           record {
@@ -93,14 +94,14 @@ module _ (sensor : ℕ) (s : Setup) (f : Field) (high low : ℕ) (context : Cont
 
 -- an update in mode, of an accepted candidate and with room in the journal, is carried out
 pub update_accepted : (sensor : ℕ) (s : Setup) (f : Field) (low : ℕ) (context : Context) (c : Coefficients) → f.offset ≡ 5 → f.access ≡ Writable
-    → s.procedure.calibrating ≡ true → judged_of sensor (method_set s) ≡ Accepted c → context.spare ≡ true
+    → s.procedure.calibrating ≡ true → judged_of sensor (method_set s) ≡ Ok c → context.spare ≡ true
     → write_of sensor s f 0xE001 low context ≡ Updated (calibrated_at s c context.clock) (entry_of sensor (method_set s) c context.clock context.technician)
 unfolding write_of field_written commanded updated
 update_accepted sensor s f low context c o a m j r = rw (a, o, m, j, r)
 
 -- one of a candidate that is refused for its limits alone fails with it, with room in the journal or without
 pub update_fails : (sensor : ℕ) (s : Setup) (f : Field) (low : ℕ) (context : Context) (c : Coefficients) → f.offset ≡ 5
-    → s.procedure.calibrating ≡ true → judged_of sensor (method_set s) ≡ OutsideLimits c
+    → s.procedure.calibrating ≡ true → judged_of sensor (method_set s) ≡ Err (OutsideLimits c)
     → write_of sensor s f 0xE001 low context ≡ Failed (with_trial s c)
 unfolding write_of field_written commanded updated
 update_fails sensor s f low context c o m j = rw (o, m, j) (go (is_modal f.access) _)
@@ -132,11 +133,11 @@ module _ (sensor : ℕ) (s : Setup) (f : Field) (high low : ℕ) (context : Cont
       chosen true w v = refl
       chosen false w v = refl
 
-      judged : (v : Verdict) → entries_of (judged_update sensor s context v) ≡ accepted_by sensor s context v
-      judged (Accepted c) = chosen context.spare _ _
-      judged (OutsideLimits c) = refl
-      judged NotFinite = refl
-      judged Undefined = refl
+      judged : (v : Result Coefficients Rejection) → entries_of (judged_update sensor s context v) ≡ accepted_by sensor s context v
+      judged (Ok c) = chosen context.spare _ _
+      judged (Err (OutsideLimits c)) = refl
+      judged (Err NotFinite) = refl
+      judged (Err (Undefined cause)) = refl
 
   -- any other write
   none_told : (eqb f.offset 5 && eqb high 0xE001) ≡ false → entries_of x ≡ []
@@ -176,11 +177,11 @@ module _ (sensor : ℕ) (s : Setup) (f : Field) (high low : ℕ) (context : Cont
       in-mode false true w h = h
       in-mode false false w h = λ n. refl
 
-      judged : (v : Verdict) → Leaves (tried_by s v) (judged_update sensor s context v)
-      judged (Accepted c) = choose (Leaves s) context.spare _ _ (λ r n. absurd (n refl)) (λ r n. refl)
-      judged (OutsideLimits c) = λ n. refl
-      judged NotFinite = λ n. refl
-      judged Undefined = λ n. refl
+      judged : (v : Result Coefficients Rejection) → Leaves (tried_by s v) (judged_update sensor s context v)
+      judged (Ok c) = choose (Leaves s) context.spare _ _ (λ r n. absurd (n refl)) (λ r n. refl)
+      judged (Err (OutsideLimits c)) = λ n. refl
+      judged (Err NotFinite) = λ n. refl
+      judged (Err (Undefined cause)) = λ n. refl
 
   -- any other write
   other_leaves : (eqb f.offset 5 && eqb high 0xE001) ≡ false → Leaves s y
@@ -235,11 +236,11 @@ by_spare sensor s f high low clock technician =
     (choose_two (eqb high 0xE001) _ _ _ _ (choose_two s.procedure.calibrating _ _ _ _ (judged (judged_of sensor (method_set s))) equal) equal))
     equal))
   where
-    judged : (v : Verdict) → BySpare (judged_update sensor s (context clock true technician) v) (judged_update sensor s (context clock false technician) v)
-    judged (Accepted c) = spent
-    judged (OutsideLimits c) = equal
-    judged NotFinite = equal
-    judged Undefined = equal
+    judged : (v : Result Coefficients Rejection) → BySpare (judged_update sensor s (context clock true technician) v) (judged_update sensor s (context clock false technician) v)
+    judged (Ok c) = spent
+    judged (Err (OutsideLimits c)) = equal
+    judged (Err NotFinite) = equal
+    judged (Err (Undefined cause)) = equal
 
 -- what is an update with room in the journal is 0xC0 without
 pub spare_needed : (sensor : ℕ) (s : Setup) (f : Field) (high low clock technician : ℕ) (t : Setup) (e : Entry) → write_of sensor s f high low (context clock true technician) ≡ Updated t e

@@ -1,11 +1,9 @@
 -- What a write of one whole field that isn't read-only does to a sensor's setup, or to the device. One definition for the frame call and for the
 -- control book. Document 01, "Calibration", "Register map" and the codes of "What is sent back": 0x92, 0x84, 0x97, 0xC0 in that order; 0xC2 comes
 -- before them, at `target_in` of plans. Document 02, wish 3. Assumes nothing.
-use Rattle.std.specs.Prelude.{◌&&◌, not, cond, ℕ, eqb, leb, ltb, Float}
+use Rattle.std.specs.Prelude.{◌&&◌, not, cond, ℕ, eqb, leb, ltb, Float, Option, Some, None}
 use Rattle.refusals.specs.declared.codes.Code.TheVariants.{SensorMode, WriteValue}
 use Rattle.floats.specs.Floats.{pattern, float_of}
-use Rattle.floats.specs.declared.FloatOf.{FloatOf}
-use Rattle.floats.specs.declared.FloatOf.TheVariants.{Finite, NotFinite}
 use Rattle.coefficients.specs.Coefficients.{coefficients}
 use Rattle.coefficients.specs.declared.Coefficients.{Coefficients}
 use Rattle.methods.specs.Methods.{points}
@@ -63,9 +61,9 @@ with_float s offset x =
     (with_parameters s (with_sentinel s.parameters (parameter_number offset) x)))
 
 -- "float not finite": the code of what two words hold, 0x84
-abbrev pub float_stored : Setup → ℕ → FloatOf → Written
-float_stored s offset (Finite x) = Stored (with_float s offset x)
-float_stored s offset NotFinite = Refused WriteValue
+abbrev pub float_stored : Setup → ℕ → Option Float → Written
+float_stored s offset (Some x) = Stored (with_float s offset x)
+float_stored s offset None = Refused WriteValue
 
 unfoldable pub float_written : Setup → ℕ → ℕ → ℕ → Written
 float_written s offset high low = float_stored s offset (float_of high low)

@@ -9,7 +9,6 @@ use coefficients::Coefficients;
 use commands::{Context, Written, command};
 use entries::method_allowed;
 use fields::{Access, Field};
-use floats::FloatOf;
 use methods::Points;
 use refusals::codes::Code;
 use sensors::{Parameters, Setup};
@@ -96,10 +95,9 @@ fn with_float(mut s: Setup, offset: u16, x: f32) -> Setup
 fn write_float(s: Setup, offset: u16, high: u16, low: u16) -> Written
     ensures { result ≡ float_written s offset high low }
 {
-    let value = floats::float_of(high, low);
-    match value {
-        FloatOf::Finite(x) => Written::Stored(with_float(s, offset, x)),
-        FloatOf::NotFinite => Written::Refused(Code::WriteValue),
+    match floats::float_of(high, low) {
+        Some(x) => Written::Stored(with_float(s, offset, x)),
+        None => Written::Refused(Code::WriteValue),
     }
 }
 
