@@ -1,6 +1,8 @@
 -- A frame judged, as the code hands it on. No reader has to believe these definitions: the plan is that of `plan_for`, and the numbers are those of
 -- `frame_of` (service/specs/Frame), as `refused_left` and `passed` (sonde/proofs/Left) say. Assumes nothing.
-use Rattle.std.specs.Prelude.{Bool, cond, List, ℕ, ◌/◌, ltb}
+use Rattle.std.specs.Prelude.{Bool, cond, List, Result, Ok, Err, ⊤, ℕ, ◌/◌, ltb}
+use Rattle.refusals.specs.declared.numbers.Refusal.{Refusal}
+use Rattle.refusals.specs.declared.numbers.Refusal.TheVariants.{ShortReply, Disagreement}
 use Rattle.framing.specs.Framing.{room_in}
 use Rattle.framing.specs.Steps.{carried_by}
 use Rattle.modbus.specs.Request.{header_of}
@@ -9,9 +11,9 @@ use Rattle.plans.specs.declared.Plan.TheVariants.{Bad, Foreign, BroadcastRead, R
 use Rattle.service.specs.Frame.{plan_for}
 use Rattle.admission.specs.declared.Judged.{Judged}
 
--- number 3, by the room that the framing's replies need, then number 4; 0 for none
-unfoldable pub number_by : Bool → ℕ → Bool → ℕ
-number_by ascii room agreed = cond (ltb room (room_in ascii)) 3 (cond agreed 0 4)
+-- number 3, by the room that the framing's replies need, then number 4
+unfoldable pub admitted : Bool → ℕ → Bool → Result ⊤ Refusal
+admitted ascii room agreed = cond (ltb room (room_in ascii)) (Err ShortReply) (cond agreed (Ok tt) (Err Disagreement))
 
 -- the owner that a plan names, 0 for the device or for none
 abbrev pub owner_of : Plan → ℕ

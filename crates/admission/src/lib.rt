@@ -1,13 +1,13 @@
-// What a frame asks for: whether a number refuses it, its plan, and the sensor that it names.
+// What a frame asks for: whether it is taken, its plan, and the sensor that it names.
 
 #![tactic(auto)]
 
 ghost use Rattle.std.specs.Prelude.{◌≡◌, ◌-◌, ◌<◌, ◌≤◌};
-ghost use Rattle.admission.specs.Steps.{number_by, owner_of, judged_of};
+ghost use Rattle.admission.specs.Steps.{admitted, owner_of, judged_of};
 
 use modbus::Header;
 use plans::Plan;
-use refusals::numbers;
+use refusals::numbers::Refusal;
 
 // What a frame asks for, with its header.
 #[derive(Clone, Copy)]
@@ -16,18 +16,18 @@ pub struct Judged {
     pub plan: Plan,
 }
 
-// The number that refuses a frame of this framing with so many bytes of reply buffer, by whether the sonde and its volume agree; 0 is none.
-#[tactic(auto, unfolding(crate::specs::Steps::number_by))]
-pub fn number_of(ascii: bool, room: usize, agreed: bool) -> u8
-    ensures { result ≡ number_by ascii room agreed }
+// Whether a frame of this framing with so many bytes of reply buffer is taken at all, by whether the sonde and its volume agree.
+#[tactic(auto, unfolding(crate::specs::Steps::admitted))]
+pub fn admit(ascii: bool, room: usize, agreed: bool) -> Result<(), Refusal>
+    ensures { result ≡ admitted ascii room agreed }
 {
     if room < framing::room(ascii) {
-        return numbers::SHORT_REPLY;
+        return Err(Refusal::ShortReply);
     }
-    if agreed {
-        return numbers::DONE;
+    if !agreed {
+        return Err(Refusal::Disagreement);
     }
-    numbers::DISAGREEMENT
+    Ok(())
 }
 
 // The place of an owner's sensor; the device has none, and gets the first.

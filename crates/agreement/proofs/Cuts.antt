@@ -8,6 +8,8 @@ use native.Mathlib.Omega.{arith}
 use lib.Dec.{eqb, ltb}
 use lib.ListN.{length}
 use borrow.Author.Tests.{ltb-true, ltb-false}
+use Rattle.std.specs.Prelude.{Option}
+use Rattle.refusals.specs.declared.codes.Code.{Code}
 use Rattle.framing.specs.Framing.{carried_in, body_of}
 use Rattle.entries.specs.Entries.{valid_entry}
 use Rattle.entries.specs.declared.Entry.{Entry}
@@ -53,7 +55,7 @@ record Leaves (j : Journal) (r : Salvaged) : Type 0 where
 
 module _ {x : State} {b : Model} (h : Invariant x b) where
   -- what a write journals
-  journalled_fit : (a : Arrival) (s : ℕ) → IsSensor s → {y : Setup} {code : ℕ} {es : List Entry}
+  journalled_fit : (a : Arrival) (s : ℕ) → IsSensor s → {y : Setup} {code : Option Code} {es : List Entry}
       → Journalled s (setup_at x.sonde s) y (context_of (device_in x.sonde x.volume a)) code es → Fit b.journal es
   journalled_fit a s k (nothing e) = none
   journalled_fit a s k (entry e c r n u v f) =

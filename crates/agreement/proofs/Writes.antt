@@ -9,6 +9,8 @@ use lib.Dec.{eqb, ltb}
 use lib.ListN.{length}
 use lib.Seq.{set-get_or}
 use borrow.Author.Tests.{eqb-true, ltb-true, ltb-false}
+use Rattle.std.specs.Prelude.{Option}
+use Rattle.refusals.specs.declared.codes.Code.{Code}
 use Rattle.modbus.specs.declared.Header.{Header}
 use Rattle.modbus.specs.declared.Value.{Value}
 use Rattle.floats.proofs.Bools.{no}
@@ -135,7 +137,7 @@ module _ {x : State} {b : Model} (h : Invariant x b) where
       followed : (t : ℕ) → IsSensor t → latest t (of_sensor b.journal.opening t) (b.journal.entries ++ es) ≡ in_force y t
 
     -- so it is with what a write journals: nothing, or one entry
-    recorded : (a : Arrival) {y : Setup} {code : ℕ} {es : List Entry} → Journalled s old y (context_of (device_in x.sonde x.volume a)) code es → Recorded y es
+    recorded : (a : Arrival) {y : Setup} {code : Option Code} {es : List Entry} → Journalled s old y (context_of (device_in x.sonde x.volume a)) code es → Recorded y es
     unfolding on
     recorded a {y} (nothing e) = record { holds = rw append-nil h.holds; followed = λ t l. rw append-nil (h.followed t l ∙ go t (eqb t s) refl) }
       where

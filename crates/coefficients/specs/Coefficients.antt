@@ -1,5 +1,5 @@
 -- The coefficients of a sensor and their limits. Document 01, "Figures and limits". Assumes nothing.
-use Rattle.std.specs.Prelude.{Bool, false, ◌&&◌, cond, ℕ, eqb, Float}
+use Rattle.std.specs.Prelude.{Bool, false, ◌&&◌, cond, ℕ, eqb, Float, List, [], ◌∷◌}
 use Rattle.floats.specs.Floats.{near, near_minus, plus_zero, finite, same_bits, is_plus_zero, within}
 use Rattle.coefficients.specs.declared.Coefficients.{Coefficients}
 use Rattle.coefficients.specs.declared.Calibration.{Calibration}
@@ -7,6 +7,10 @@ use Rattle.coefficients.specs.declared.Calibration.{Calibration}
 -- document 01's figures 1, 2 and 3
 abbrev pub coefficients : Float → Float → Float → Coefficients
 coefficients a b c = record { coefficient1 = a; coefficient2 = b; coefficient3 = c }
+
+-- in their order
+abbrev pub values_of : Coefficients → List Float
+values_of c = c.coefficient1 ∷ c.coefficient2 ∷ c.coefficient3 ∷ []
 
 unfoldable pub all_finite : Coefficients → Bool
 all_finite c = finite c.coefficient1 && finite c.coefficient2 && finite c.coefficient3

@@ -4,7 +4,7 @@
 
 ghost use Rattle.std.specs.Prelude.{◌≡◌};
 ghost use Rattle.floats.specs.Floats.{within as within_of};
-ghost use Rattle.coefficients.specs.Coefficients.{all_finite, same_coefficients, same_calibration, calibration_of, coefficients_of, defaults_of, in_limits};
+ghost use Rattle.coefficients.specs.Coefficients.{values_of, all_finite, same_coefficients, same_calibration, calibration_of, coefficients_of, defaults_of, in_limits};
 
 // Document 01: figures 1, 2 and 3.
 #[repr(C)]
@@ -27,6 +27,7 @@ pub struct Calibration {
 
 impl Coefficients {
     // The coefficients that a sensor has when fresh; those of sensors 1, 2 and 4 are the same.
+    #[tactic(auto, using(floats::proofs::Words::one), unfolding(crate::specs::Coefficients::defaults_of))]
     pub fn defaults(sensor: u16) -> Self
         ensures { result ≡ defaults_of sensor }
     {
@@ -44,21 +45,26 @@ impl Coefficients {
         }
     }
 
+    // In their order.
+    pub fn values(self) -> [f32; 3]
+        ensures { result ≡ values_of self }
+    {
+        [self.coefficient1, self.coefficient2, self.coefficient3]
+    }
+
+    #[tactic(auto, using(floats::proofs::Bools::three), unfolding(crate::specs::Coefficients::all_finite))]
     pub fn is_finite(self) -> bool
         ensures { result ≡ all_finite self }
     {
-        floats::is_finite(self.coefficient1)
-            & floats::is_finite(self.coefficient2)
-            & floats::is_finite(self.coefficient3)
+        floats::all_finite(self.values())
     }
 
     // Equality in every bit.
+    #[tactic(auto, using(floats::proofs::Bools::three), unfolding(crate::specs::Coefficients::same_coefficients))]
     pub fn same_bits(self, other: Coefficients) -> bool
         ensures { result ≡ same_coefficients self other }
     {
-        floats::same_bits(self.coefficient1, other.coefficient1)
-            & floats::same_bits(self.coefficient2, other.coefficient2)
-            & floats::same_bits(self.coefficient3, other.coefficient3)
+        floats::all_same(self.values(), other.values())
     }
 
     // These coefficients, calibrated at a time.
@@ -86,6 +92,7 @@ impl Calibration {
     }
 
     // Equality in every bit, the time's too.
+    #[tactic(auto, unfolding(crate::specs::Coefficients::same_calibration))]
     pub fn same_bits(self, other: Calibration) -> bool
         ensures { result ≡ same_calibration self other }
     {
@@ -102,6 +109,7 @@ fn within(low: f32, high: f32, x: f32) -> bool
 }
 
 // The table of limits; a number that is no sensor has none.
+#[tactic(auto, unfolding(crate::specs::Coefficients::in_limits))]
 #[inline(never)]
 pub fn in_limits(sensor: u16, c: Coefficients) -> bool
     ensures { result ≡ in_limits sensor c }

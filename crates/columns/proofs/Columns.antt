@@ -11,7 +11,7 @@ use borrow.Author.Tests.{ltb-true, ltb-false, eqb-true}
 use lib.ListN.{length, take, drop, length-append}
 use lib.Seq.{take_at, drop_at}
 use Rattle.words.specs.Digits.{hex_digit}
-use Rattle.columns.specs.Columns.{last, last_or_blank, cells, number, hex, behind, spaced}
+use Rattle.columns.specs.Columns.{last, last_or, last_or_blank, cells, number, hex, behind, spaced}
 
 -- two parts of equal lengths
 pub append_one : (x y a b : List ℕ) → length x ≡ length y → x ++ a ≡ y ++ b → (x ≡ y) × (a ≡ b)
@@ -98,7 +98,7 @@ blank_pair b m n false true p q h = absurd (omega (arith, digit_low (m % b)))
 blank_pair b m n false false p q h = digit_one (m % b) (n % b) h
 
 pub blank_tells : (b : ℕ) → Tells b (last_or_blank b)
-unfolding last_or_blank
+unfolding last_or
 blank_tells b = record { told = λ m n e. blank_pair b m n (eqb m 0) (eqb n 0) refl refl e }
 
 pub hex_one : (w m n : ℕ) → m < 16 ^ w → n < 16 ^ w → hex w m ≡ hex w n → m ≡ n

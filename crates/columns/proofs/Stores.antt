@@ -1,12 +1,14 @@
 -- Stores of a column from the right. Assumes nothing.
 use mathlib.Core.Path.{◌≡◌, refl, sym, ap, ◌∙◌}
 use mathlib.Core.List.{List, [], ◌∷◌, ◌++◌}
-use Prim.Native.Nat.{ℕ, suc, ◌+◌, ◌-◌, ◌/◌, ◌<◌, ◌≤◌}
+use Prim.Native.Nat.{ℕ, zero, suc, ◌+◌, ◌-◌, ◌/◌, ◌<◌, ◌≤◌}
 use native.Mathlib.Omega.{arith}
+use borrow.Author.Tests.{ne_eqb}
 use lib.ListN.{length, set}
 use lib.Seq.{sets, set_comm}
 use Rattle.words.proofs.Stores.{sets-append}
-use Rattle.columns.specs.Columns.{last, last_or_blank, cells, number}
+use Rattle.columns.specs.Columns.{last, last_or, last_or_blank, cells, number, hex}
+use Rattle.words.specs.Digits.{hex_digit}
 use Rattle.columns.proofs.Columns.{cells-length}
 
 -- a store behind a run may come first
@@ -42,6 +44,22 @@ unfolding cells
 cells_done b mark left n v at all h i =
     let p : left ≡ 0 = omega arith in
     rw p at i
+
+-- columns whose marks are equal
+marks_alike : (b : ℕ) (f g : ℕ → ℕ) → ((k : ℕ) → f k ≡ g k) → (w n : ℕ) → cells b f w n ≡ cells b g w n
+unfolding cells
+marks_alike b f g e zero n = refl
+marks_alike b f g e (suc w) n = rw (e n, marks_alike b f g e w (n / b)) refl
+
+-- 0 is shown as 0 in hexadecimal: its digit
+zero_shown : (k : ℕ) → last_or 48 16 k ≡ last 16 k
+unfolding last_or last hex_digit
+zero_shown zero = refl
+zero_shown (suc k) = rw (ne_eqb (suc k) 0 (λ e. omega arith)) refl
+
+pub hex_is : (w n : ℕ) → cells 16 (last_or 48 16) w n ≡ hex w n
+unfolding hex
+hex_is w n = marks_alike 16 (last_or 48 16) (last 16) zero_shown w n
 
 -- a number in no characters
 pub number_none : (width n : ℕ) (v : List ℕ) (at : ℕ) → width ≡ 0 → v ≡ sets v at (number width n)

@@ -6,9 +6,13 @@ use Rattle.words.specs.Digits.{hex_digit}
 unfoldable pub last : ℕ → ℕ → ℕ
 last b n = hex_digit (n % b)
 
--- the same, and a blank for 0
-unfoldable pub last_or_blank : ℕ → ℕ → ℕ
-last_or_blank b n = cond (eqb n 0) 32 (last b n)
+-- the same, and another character for 0
+unfoldable pub last_or : ℕ → ℕ → ℕ → ℕ
+last_or zero_mark b n = cond (eqb n 0) zero_mark (last b n)
+
+-- a blank (32) for 0
+abbrev pub last_or_blank : ℕ → ℕ → ℕ
+last_or_blank b n = last_or 32 b n
 
 -- w characters, from the right: mark n, then mark (n / b), and so on
 unfoldable pub cells : ℕ → (ℕ → ℕ) → ℕ → ℕ → List ℕ

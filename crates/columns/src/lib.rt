@@ -5,7 +5,7 @@
 ghost use Rattle.std.specs.Prelude.{◌≡◌, ◌+◌, ◌≤◌, ◌<◌, length};
 ghost use Rattle.std.proofs.lemmas.List.Edits.{sets};
 ghost use Rattle.words.specs.Digits.{hex_digit};
-ghost use Rattle.columns.specs.Columns.{last, last_or_blank, cells, number, hex};
+ghost use Rattle.columns.specs.Columns.{last, last_or, cells, number, hex};
 
 // The character of a digit.
 #[tactic(auto, unfolding(words::specs::Digits::hex_digit))]
@@ -27,28 +27,28 @@ pub fn last_digit(n: u32) -> u8
     digit(n % 10)
 }
 
-// The same, and a blank for 0.
-#[tactic(auto, unfolding(crate::specs::Columns::last_or_blank))]
-fn last_or_blank(n: u32) -> u8
-    ensures { result ≡ last_or_blank 10 n }
+// The last digit of a number in base BASE, and ZERO for the number 0.
+#[tactic(auto, unfolding(crate::specs::Columns::last, crate::specs::Columns::last_or))]
+fn last_or<const BASE: u32, const ZERO: u8>(n: u32) -> u8
+    requires { (1 ≤ BASE) × (BASE ≤ 16) }
+    ensures { result ≡ last_or ZERO BASE n }
 {
     if n == 0 {
-        return 32;
+        return ZERO;
     }
-    last_digit(n)
+    digit(n % BASE)
 }
 
-// All of a number but its last digit, with blanks in front.
-fn put_rest(buffer: &mut [u8], at: usize, width: usize, n: u32)
-    requires { at + width ≤ length buffer.old }
-    ensures { buffer.new ≡ sets buffer.old at (cells 10 (last_or_blank 10) width n) }
+// A number in base BASE, from the right: where nothing is left of it, ZERO. Each base has its own code, which divides by a constant.
+fn put_cells<const BASE: u32, const ZERO: u8>(buffer: &mut [u8], at: usize, width: usize, n: u32)
+    requires base { (1 ≤ BASE) × (BASE ≤ 16) }
+    requires room { at + width ≤ length buffer.old }
+    ensures { buffer.new ≡ sets buffer.old at (cells BASE (last_or ZERO BASE) width n) }
 {
-    let mut left = width;
     let mut rest = n;
-    while 0 < left {
-        left -= 1;
-        buffer[at + left] = last_or_blank(rest);
-        rest = rest / 10;
+    for k in (0..width).rev() {
+        buffer[at + k] = last_or::<BASE, ZERO>(rest);
+        rest = rest / BASE;
     }
 }
 
@@ -62,20 +62,15 @@ pub fn put_number(buffer: &mut [u8], at: usize, width: usize, n: u32)
     }
     let front = width - 1;
     buffer[at + front] = last_digit(n);
-    put_rest(buffer, at, front, n / 10);
+    put_cells::<10, b' '>(buffer, at, front, n / 10);
 }
 
 // A number in capital hexadecimal digits, with zeros in front.
+#[tactic(auto, using(crate::proofs::Stores::hex_is))]
 #[inline(never)]
 pub fn put_hex(buffer: &mut [u8], at: usize, width: usize, n: u32)
     requires { at + width ≤ length buffer.old }
     ensures { buffer.new ≡ sets buffer.old at (hex width n) }
 {
-    let mut left = width;
-    let mut rest = n;
-    while 0 < left {
-        left -= 1;
-        buffer[at + left] = digit(rest % 16);
-        rest = rest / 16;
-    }
+    put_cells::<16, b'0'>(buffer, at, width, n);
 }

@@ -1,10 +1,13 @@
 -- The commands of a calibration. One definition for the frame call and for the control book. Document 01, "Calibration", and the codes of
 -- "What is sent back": 0x92, 0x84, 0x97, 0xC0 in that order. Assumes nothing.
-use Rattle.std.specs.Prelude.{Bool, true, false, cond, List, [], ◌∷◌, ℕ, eqb, ltb}
-use Rattle.methods.specs.Methods.{method_of, judged_of, code_of as verdict_code}
+use Rattle.std.specs.Prelude.{Bool, true, false, cond, List, [], ◌∷◌, Option, Some, None, Result, Ok, Err, ℕ, eqb, ltb}
+use Rattle.refusals.specs.declared.codes.Code.{Code}
+use Rattle.refusals.specs.declared.codes.Code.TheVariants.{SensorMode, WriteValue, InvalidCalibration, JournalFull}
+use Rattle.methods.specs.Methods.{method_of, judged_of, code_by}
 use Rattle.methods.specs.declared.Method.{Method}
-use Rattle.methods.specs.declared.Verdict.{Verdict}
-use Rattle.methods.specs.declared.Verdict.TheVariants.{Accepted, OutsideLimits, NotFinite, Undefined}
+use Rattle.coefficients.specs.declared.Coefficients.{Coefficients}
+use Rattle.methods.specs.declared.Rejection.{Rejection}
+use Rattle.methods.specs.declared.Rejection.TheVariants.{OutsideLimits, NotFinite, Undefined}
 use Rattle.entries.specs.Entries.{entry_of}
 use Rattle.entries.specs.declared.Entry.{Entry}
 use Rattle.sensors.specs.Changes.{with_trial, restarted, calibrated_at}
@@ -24,13 +27,13 @@ context_of e = context e.clock (ltb e.used e.capacity) e.technician
 
 -- ---- an answer
 
--- document 01's code for each answer; 0 is no refusal
-abbrev pub code_of : Written → ℕ
-code_of (Refused code) = code
-code_of (Failed t) = 0x97
-code_of (Stored s) = 0
-code_of (Updated s e) = 0
-code_of (Technician n) = 0
+-- document 01's code for each answer, if it is a refusal
+abbrev pub code_of : Written → Option Code
+code_of (Refused code) = Some code
+code_of (Failed t) = Some InvalidCalibration
+code_of (Stored s) = None
+code_of (Updated s e) = None
+code_of (Technician n) = None
 
 -- the setup that an answer leaves, s being the one before; demand 1: "a code changes only the message counters", with the one exception of
 -- document 02, wish 2: "an update that is refused for its limits alone puts the candidate in the trial figures"
@@ -65,16 +68,16 @@ method_set s = method_of s.procedure.method s.procedure.trial s.procedure.points
 
 -- "A full journal is 0xC0. Else .. one entry is appended"; a candidate that isn't accepted is 0x97, before the journal's room is asked for. Document
 -- 02, wish 2: one refused for its limits alone is kept, "Equal points and results that aren't finite still change nothing"
-abbrev pub judged_update : ℕ → Setup → Context → Verdict → Written
-judged_update sensor s context (Accepted c) =
-    cond context.spare (Updated (calibrated_at s c context.clock) (entry_of sensor (method_set s) c context.clock context.technician)) (Refused 0xC0)
-judged_update sensor s context (OutsideLimits c) = Failed (with_trial s c)
-judged_update sensor s context NotFinite = Refused (verdict_code NotFinite)
-judged_update sensor s context Undefined = Refused (verdict_code Undefined)
+abbrev pub judged_update : ℕ → Setup → Context → Result Coefficients Rejection → Written
+judged_update sensor s context (Ok c) =
+    cond context.spare (Updated (calibrated_at s c context.clock) (entry_of sensor (method_set s) c context.clock context.technician)) (Refused JournalFull)
+judged_update sensor s context (Err (OutsideLimits c)) = Failed (with_trial s c)
+judged_update sensor s context (Err NotFinite) = Refused (code_by NotFinite)
+judged_update sensor s context (Err (Undefined cause)) = Refused (code_by (Undefined cause))
 
 -- "0xE001 (update): mode off is 0x92"
 unfoldable pub updated : ℕ → Setup → Context → Written
-updated sensor s context = cond s.procedure.calibrating (judged_update sensor s context (judged_of sensor (method_set s))) (Refused 0x92)
+updated sensor s context = cond s.procedure.calibrating (judged_update sensor s context (judged_of sensor (method_set s))) (Refused SensorMode)
 
 -- "Command 0xE000, mode off: mode on ..; Mode on: accepted, nothing changes", "0xE002: mode off ..; Mode off already: accepted, nothing changes";
 -- a value not listed is 0x84
@@ -83,17 +86,17 @@ commanded sensor s value context =
     cond (eqb value 0xE000) (cond s.procedure.calibrating (Stored s) (Stored (restarted s true)))
     (cond (eqb value 0xE001) (updated sensor s context)
     (cond (eqb value 0xE002) (cond s.procedure.calibrating (Stored (restarted s false)) (Stored s))
-    (Refused 0x84)))
+    (Refused WriteValue)))
 
 -- ---- an update that is refused
 
 -- document 02, wish 2: "an update that is refused for its limits alone puts the candidate in the trial figures. Equal points and results that aren't
 -- finite still change nothing"; nor does a full journal (0xC0)
-abbrev pub tried_by : Setup → Verdict → Setup
-tried_by s (Accepted c) = s
-tried_by s (OutsideLimits c) = with_trial s c
-tried_by s NotFinite = s
-tried_by s Undefined = s
+abbrev pub tried_by : Setup → Result Coefficients Rejection → Setup
+tried_by s (Ok c) = s
+tried_by s (Err (OutsideLimits c)) = with_trial s c
+tried_by s (Err NotFinite) = s
+tried_by s (Err (Undefined cause)) = s
 
 -- the setup that a refused update leaves; mode off (0x92) changes nothing
 unfoldable pub refused_update : ℕ → Setup → Setup
@@ -104,11 +107,11 @@ refused_update sensor s = cond s.procedure.calibrating (tried_by s (judged_of se
 -- document 01: "An accepted calibration is a frame .. that writes 0xE001 to a command register and meets no refusal below": the entry of such an
 -- update, none where mode is off (0x92), the candidate isn't accepted (0x97) or the journal is full (0xC0). Document 02, wish 3: it "carries the
 -- number that stood when it was accepted"
-abbrev pub accepted_by : ℕ → Setup → Context → Verdict → List Entry
-accepted_by sensor s context (Accepted c) = cond context.spare (entry_of sensor (method_set s) c context.clock context.technician ∷ []) []
-accepted_by sensor s context (OutsideLimits c) = []
-accepted_by sensor s context NotFinite = []
-accepted_by sensor s context Undefined = []
+abbrev pub accepted_by : ℕ → Setup → Context → Result Coefficients Rejection → List Entry
+accepted_by sensor s context (Ok c) = cond context.spare (entry_of sensor (method_set s) c context.clock context.technician ∷ []) []
+accepted_by sensor s context (Err (OutsideLimits c)) = []
+accepted_by sensor s context (Err NotFinite) = []
+accepted_by sensor s context (Err (Undefined cause)) = []
 
 unfoldable pub accepted_update : ℕ → Setup → Context → List Entry
 accepted_update sensor s context = cond s.procedure.calibrating (accepted_by sensor s context (judged_of sensor (method_set s))) []

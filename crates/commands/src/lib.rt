@@ -7,8 +7,8 @@ ghost use Rattle.std.specs.Prelude.{◌≡◌};
 ghost use Rattle.commands.specs.Commands.{context_of, updated, commanded, code_of, setup_after, technician_after};
 
 use entries::{Entry, entry_of};
-use methods::{Verdict, judge, method_of};
-use refusals::codes;
+use methods::{Rejection, judge, method_of};
+use refusals::codes::Code;
 use registers::Device;
 use sensors::Setup;
 
@@ -33,7 +33,7 @@ pub fn context_of(device: Device) -> Context
 
 #[derive(Clone, Copy)]
 pub enum Written {
-    Refused(u8),
+    Refused(Code),
     // An update that is refused for its limits alone (0x97), with its candidate in the trial coefficients.
     Failed(Setup),
     Stored(Setup),
@@ -42,16 +42,14 @@ pub enum Written {
     Technician(u16),
 }
 
-// 0, or the code that refuses the write.
-pub fn code_of(w: Written) -> u8
+// The code that refuses the write, if one does.
+pub fn code_of(w: Written) -> Option<Code>
     ensures { result ≡ code_of w }
 {
     match w {
-        Written::Refused(code) => code,
-        Written::Failed(_) => codes::INVALID_CALIBRATION,
-        Written::Stored(_) => 0,
-        Written::Updated(_, _) => 0,
-        Written::Technician(_) => 0,
+        Written::Refused(code) => Some(code),
+        Written::Failed(_) => Some(Code::InvalidCalibration),
+        _ => None,
     }
 }
 
@@ -86,23 +84,22 @@ fn update(sensor: u16, s: Setup, context: Context) -> Written
     let p = s.procedure;
     let calibrating = p.calibrating;
     if !calibrating {
-        return Written::Refused(codes::SENSOR_MODE);
+        return Written::Refused(Code::SensorMode);
     }
     let m = method_of(p.method, p.trial, p.points);
-    let verdict = judge(sensor, m);
-    match verdict {
-        Verdict::Accepted(c) => {
+    match judge(sensor, m) {
+        Ok(c) => {
             let spare = context.spare;
             if !spare {
-                return Written::Refused(codes::JOURNAL_FULL);
+                return Written::Refused(Code::JournalFull);
             }
             Written::Updated(
                 s.calibrate(c, context.clock),
                 entry_of(sensor, m, c, context.clock, context.technician),
             )
         }
-        Verdict::OutsideLimits(c) => Written::Failed(s.with_trial(c)),
-        _ => Written::Refused(methods::code_of(verdict)),
+        Err(Rejection::OutsideLimits(c)) => Written::Failed(s.with_trial(c)),
+        Err(rejection) => Written::Refused(Code::from(rejection)),
     }
 }
 
@@ -126,6 +123,6 @@ pub fn command(sensor: u16, s: Setup, value: u16, context: Context) -> Written
             }
             Written::Stored(s)
         }
-        _ => Written::Refused(codes::WRITE_VALUE),
+        _ => Written::Refused(Code::WriteValue),
     }
 }

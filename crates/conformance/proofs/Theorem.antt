@@ -33,7 +33,7 @@ use Rattle.plans.specs.Plans.{target_of, read_plan, plan_of}
 use Rattle.audit.specs.Audit.{replayed}
 use Rattle.state.specs.Sonde.{fresh_counters, incremented, fresh_sonde, powered_sonde, sensor_at, setup_at, with_sensor, with_setup, with_technician, counted_by, address_valid, valid_sonde}
 use Rattle.journal.specs.Contents.{journal_of}
-use Rattle.columns.specs.Columns.{last, last_or_blank, cells, number, hex, behind, spaced}
+use Rattle.columns.specs.Columns.{last, last_or, cells, number, hex, behind, spaced}
 use Rattle.columns.specs.Text.{characters}
 use Rattle.lines.specs.Lines.{columns_of, line_of, lines_of}
 use Rattle.page.specs.Page.{page_of}
@@ -58,7 +58,7 @@ unfolding crc_bit crc_bits crc_byte crc_from crc_of checksum_of framed body_of i
     method_written point_at with_float float_written field_written write_of device_written write_to target_of read_plan plan_of
     fresh_counters incremented fresh_sonde powered_sonde replayed sensor_at setup_at with_sensor with_setup with_technician counted_by address_valid valid_sonde
     openings same_calibrations journal_agrees agrees begin_of power_up_of device_of register_at reading_body sent write_body written_by sonde_after carried_out answer_of reply_of left frame_of cut_of on firsts lasts relinked salvage_of
-    journal_of last last_or_blank cells number hex behind spaced characters columns_of line_of lines_of page_of printed_on print_of
+    journal_of last last_or cells number hex behind spaced characters columns_of line_of lines_of page_of printed_on print_of
     worked told begun_with begin_told asked next next_at next_ascii frame_told in_mode ten_at_eight failed calibrated one_point print_told example_page salvaged_at salvage_told
 cases =
     record {

@@ -1,6 +1,6 @@
 -- Document 01's starred cases, "Entries to test by", in its order, then cases of document 02's wishes, as statements about the definitions that the
 -- contracts cite. Assumes nothing.
-use Rattle.std.specs.Prelude.{◌≡◌, true, false, List, [], ◌∷◌, ◌++◌, ℕ, get_or, take, drop, replicate, Float}
+use Rattle.std.specs.Prelude.{◌≡◌, true, false, List, [], ◌∷◌, ◌++◌, ℕ, get_or, take, drop, replicate, Float, Result, Ok, Err}
 use Rattle.std.specs.Float.{binary32}
 use Rattle.std.specs.Float.Ieee.{of_bits, to_bits}
 use Rattle.rtu.specs.Crc.{crc_of}
@@ -9,10 +9,8 @@ use Rattle.methods.specs.Methods.{candidate_of, judged_of, code_of}
 use Rattle.coefficients.specs.Coefficients.{coefficients_of}
 use Rattle.coefficients.specs.declared.Coefficients.{Coefficients}
 use Rattle.methods.specs.declared.Method.TheVariants.{Direct, OnePoint, TwoPoints}
-use Rattle.methods.specs.declared.Candidate.{Candidate}
-use Rattle.methods.specs.declared.Candidate.TheVariants.{Made, ZeroX, SameX}
-use Rattle.methods.specs.declared.Verdict.{Verdict}
-use Rattle.methods.specs.declared.Verdict.TheVariants.{Accepted, OutsideLimits, NotFinite, Undefined}
+use Rattle.methods.specs.declared.Undefined.{Undefined}
+use Rattle.methods.specs.declared.Rejection.{Rejection}
 use Rattle.state.specs.Sonde.{fresh_sonde, setup_at}
 use Rattle.state.specs.declared.Sonde.{Sonde}
 use Rattle.columns.specs.Text.{characters}
@@ -26,17 +24,14 @@ abbrev pub bits : Coefficients → List ℕ
 bits c = to_bits binary32 c.coefficient1 ∷ to_bits binary32 c.coefficient2 ∷ to_bits binary32 c.coefficient3 ∷ []
 
 -- a candidate as numbers: the bits of its coefficients, if there are any
-unfoldable pub worked : Candidate → List ℕ
-worked (Made c) = bits c
-worked ZeroX = []
-worked SameX = []
+unfoldable pub worked : Result Coefficients Undefined → List ℕ
+worked (Ok c) = bits c
+worked (Err cause) = []
 
 -- a verdict as numbers: its code, and the bits of the coefficients that it accepts
-unfoldable pub told : Verdict → List ℕ
-told (Accepted c) = code_of (Accepted c) ∷ bits c
-told (OutsideLimits c) = code_of (OutsideLimits c) ∷ []
-told NotFinite = code_of NotFinite ∷ []
-told Undefined = code_of Undefined ∷ []
+unfoldable pub told : Result Coefficients Rejection → List ℕ
+told (Ok c) = code_of (Ok c) ∷ bits c
+told (Err rejection) = code_of (Err rejection) ∷ []
 
 -- whole numbers as floats
 abbrev pub integer : ℕ → Float

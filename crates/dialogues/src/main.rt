@@ -7,12 +7,20 @@ mod play; // lines of calls and answers
 mod scene; // the sonde of a dialogue
 
 use std::io;
+use text::tally::Summary;
 
 fn main(rt: HostRuntime) -> io::Result<()> {
     let mut space = [0u8; 196608];
     let n = text::read_full(&mut rt.reader(), &mut space)?;
-    if n == 196608 {
+    if n == space.len() {
         return text::print_cut_off(&rt);
     }
-    play::play_all(&rt, &space[..n])?.print(&rt, b" dialogues, ")
+    let tally = play::play_all(&rt, &space[..n])?;
+    println!(rt;
+        "{}",
+        Summary {
+            tally,
+            what: "dialogues"
+        }
+    )
 }

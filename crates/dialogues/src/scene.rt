@@ -1,27 +1,52 @@
 // A sonde in a dialogue, and the calls that the dialogue's lines make on it.
 ghost use Rattle.std.specs.Prelude.{◌≤◌};
-ghost use Rattle.text.specs.Text.{IsPrefixLen};
 
 use coefficients::Calibration;
 use entries::Entry;
-use floats::FloatOf;
 use methods::Points;
 use service::SondeMade;
 use state::Sonde;
 use text::character;
 use words::Halves;
 
-// The sonde, the clock of its frames, how many words its volume has, how many bytes of the reply buffer its frames are lent, and what the
-// last call gave: its number, and the length of a frame's reply, the entries in use of an audit, the words that a salvage changed, or a word
+// What a call gave: its number, and the length of a frame's reply, the entries in use of an audit, the words that a salvage changed, or a word
 // of the volume.
+#[derive(Clone, Copy, PartialEq, Eq)]
+pub struct Given {
+    pub number: u8,
+    pub count: u16,
+}
+
+// How a line says what the last call gave: `<` by the reply's bytes, `=` by the number, with the entries in use for an audit, the words that a
+// salvage changed and the word that was looked at.
+#[derive(Clone, Copy)]
+pub enum Answer {
+    Reply,
+    Given,
+}
+
+// By the first character of a line; that of any other line comes back.
+impl TryFrom<u8> for Answer {
+    type Error = u8;
+
+    fn try_from(name: u8) -> Result<Answer, u8> {
+        match name {
+            b'<' => Ok(Answer::Reply),
+            b'=' => Ok(Answer::Given),
+            _ => Err(name),
+        }
+    }
+}
+
+// The sonde, the clock of its frames, how many words its volume has, how many bytes of the reply buffer its frames are lent, and what the
+// last call gave.
 #[derive(Clone, Copy)]
 pub struct Scene {
     pub sonde: Sonde,
     pub clock: u32,
     pub words: usize,
     pub room: usize,
-    pub number: u8,
-    pub count: u16,
+    pub given: Given,
 }
 
 // The word that begins at a byte; bytes that aren't there are 0.
@@ -38,34 +63,19 @@ fn time(spelled: &[u8], at: usize) -> u32
     u32::join(word(spelled, at), word(spelled, at + 2))
 }
 
-// How many words at the start of the volume are lent where n are to be: none if it has fewer.
-fn lent(volume: &[u16], n: usize) -> usize
-    ensures { IsPrefixLen result volume.now }
-{
-    if n <= volume.len() {
-        return n;
+// The first n of a buffer, as a call is lent them: none if it has fewer.
+fn lent<T>(buffer: &mut [T], n: usize) -> &mut [T] {
+    match buffer.get_mut(..n) {
+        Some(part) => part,
+        None => &mut [],
     }
-    0
-}
-
-// How many bytes at the start of the reply buffer are lent where n are to be: none if it has fewer.
-fn lent_bytes(reply: &[u8], n: usize) -> usize
-    ensures { IsPrefixLen result reply.now }
-{
-    if n <= reply.len() {
-        return n;
-    }
-    0
 }
 
 // The float that begins at a byte; an infinity stands for whatever isn't finite.
 fn float(spelled: &[u8], at: usize) -> f32
     requires { at ≤ 62 }
 {
-    match floats::float_of(word(spelled, at), word(spelled, at + 2)) {
-        FloatOf::Finite(x) => x,
-        FloatOf::NotFinite => f32::from_bits(0x7F80_0000),
-    }
+    floats::float_of(word(spelled, at), word(spelled, at + 2)).unwrap_or(f32::INFINITY)
 }
 
 // The calibration of a line's entry.
@@ -99,14 +109,6 @@ fn entry(spelled: &[u8]) -> Entry {
     }
 }
 
-// A word of the volume becomes another; nothing where it has no such word.
-fn put(volume: &mut [u16], at: usize, x: u16) {
-    if volume.len() <= at {
-        return;
-    }
-    volume[at] = x;
-}
-
 impl Scene {
     pub fn start() -> Scene {
         Scene {
@@ -114,15 +116,16 @@ impl Scene {
             clock: 0,
             words: 0,
             room: 513,
-            number: 0,
-            count: 0,
+            given: Given {
+                number: 0,
+                count: 0,
+            },
         }
     }
 
     // What a call gave that left the sonde as it was.
     fn gave(mut self, number: u8, count: u16) -> Scene {
-        self.number = number;
-        self.count = count;
+        self.given = Given { number, count };
         self
     }
 
@@ -147,17 +150,17 @@ impl Scene {
     }
 
     fn begin(mut self, spelled: &[u8], volume: &mut [u16]) -> Scene {
-        let n = lent(volume, word(spelled, 0) as usize);
-        let begun = sonde::sonde_begin(self.sonde, &mut volume[..n]);
+        let part = lent(volume, word(spelled, 0) as usize);
+        let words = part.len();
+        let begun = sonde::sonde_begin(self.sonde, part);
         if begun.number == 0 {
-            self.words = n;
+            self.words = words;
         }
         self.made(begun)
     }
 
-    fn power_up(self, spelled: &[u8], volume: &[u16]) -> Scene {
-        let n = lent(volume, self.words);
-        self.made(sonde::sonde_power_up(character(spelled, 0), &volume[..n]))
+    fn power_up(self, spelled: &[u8], volume: &mut [u16]) -> Scene {
+        self.made(sonde::sonde_power_up(character(spelled, 0), lent(volume, self.words)))
     }
 
     fn measure(self, spelled: &[u8]) -> Scene {
@@ -171,52 +174,42 @@ impl Scene {
         ))
     }
 
-    fn audit(self, volume: &[u16]) -> Scene {
-        let n = lent(volume, self.words);
-        let a = sonde::sonde_audit(self.sonde, &volume[..n]);
+    fn audit(self, volume: &mut [u16]) -> Scene {
+        let a = sonde::sonde_audit(self.sonde, lent(volume, self.words));
         self.gave(a.number, a.entries)
     }
 
     fn append(self, spelled: &[u8], volume: &mut [u16]) -> Scene {
-        let n = lent(volume, self.words);
         let stores = character(spelled, 0) as usize;
-        sonde::sonde_append(&mut volume[..n], entry(spelled), stores);
+        sonde::sonde_append(lent(volume, self.words), entry(spelled), stores);
         self.gave(0, 0)
     }
 
     fn salvage(self, volume: &mut [u16]) -> Scene {
-        let n = lent(volume, self.words);
-        let s = sonde::sonde_salvage(&mut volume[..n]);
+        let s = sonde::sonde_salvage(lent(volume, self.words));
         self.gave(s.number, s.changed)
     }
 
+    // A word of the volume becomes another; nothing where it has no such word.
     fn damage(self, spelled: &[u8], volume: &mut [u16]) -> Scene {
-        let n = lent(volume, self.words);
-        put(
-            &mut volume[..n],
-            word(spelled, 0) as usize,
-            word(spelled, 2),
-        );
-        self.gave(0, 0)
-    }
-
-    // A word of the volume; 0 for one that it doesn't have.
-    fn look(self, spelled: &[u8], volume: &[u16]) -> Scene {
-        let at = word(spelled, 0) as usize;
-        if at < lent(volume, self.words) {
-            return self.gave(0, volume[at]);
+        if let Some(x) = lent(volume, self.words).get_mut(word(spelled, 0) as usize) {
+            *x = word(spelled, 2);
         }
         self.gave(0, 0)
     }
 
+    // A word of the volume; 0 for one that it doesn't have.
+    fn look(self, spelled: &[u8], volume: &mut [u16]) -> Scene {
+        let at = word(spelled, 0) as usize;
+        self.gave(0, lent(volume, self.words).get(at).copied().unwrap_or(0))
+    }
+
     fn frame(mut self, sent: &[u8], reply: &mut [u8], volume: &mut [u16], ascii: bool) -> Scene {
-        let m = lent_bytes(reply, self.room);
-        let n = lent(volume, self.words);
         let f = sonde::sonde_frame(
             self.sonde,
             sent,
-            &mut reply[..m],
-            &mut volume[..n],
+            lent(reply, self.room),
+            lent(volume, self.words),
             self.clock,
             ascii,
         );
@@ -226,7 +219,7 @@ impl Scene {
     }
 
     // The call of a line, by its first character, on the bytes that the line spells. A line of another form is number 255, which no
-    // call gives.
+    // call gives. An enum of the calls would be a second list of the characters.
     pub fn call(self, name: u8, spelled: &[u8], reply: &mut [u8], volume: &mut [u16]) -> Scene {
         match name {
             b'c' => self.set_clock(spelled),
@@ -246,28 +239,19 @@ impl Scene {
         }
     }
 
-    // Whether the last call gave what a line says: `<` the reply's bytes, `=` the number, with the entries in use for an audit, the words that
-    // a salvage changed and the word that was looked at.
-    pub fn agrees(self, name: u8, spelled: &[u8], reply: &[u8]) -> bool {
-        if name == b'<' {
-            return (self.number == 0) & is_same(reply, self.count as usize, spelled);
-        }
-        (self.number == character(spelled, 0)) & (self.count == word(spelled, 1))
-    }
-}
-
-// Whether a slice begins with `count` bytes that are all of another.
-fn is_same(slice: &[u8], count: usize, other: &[u8]) -> bool {
-    if count != other.len() {
-        return false;
-    }
-    if slice.len() < count {
-        return false;
-    }
-    for i in 0..count {
-        if slice[i] != other[i] {
-            return false;
+    // Whether the last call gave what a line says.
+    pub fn agrees(self, answer: Answer, spelled: &[u8], reply: &[u8]) -> bool {
+        match answer {
+            Answer::Reply => {
+                (self.given.number == 0) & (reply.get(..self.given.count as usize) == Some(spelled))
+            }
+            Answer::Given => {
+                self.given
+                    == Given {
+                        number: character(spelled, 0),
+                        count: word(spelled, 1),
+                    }
+            }
         }
     }
-    true
 }

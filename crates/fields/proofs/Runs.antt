@@ -10,7 +10,7 @@ use lib.ListN.{take, drop}
 use borrow.Author.Tests.{eqb-true, eq-eqb, leb-true, ltb-true, ltb-false, le-leb, lt-leb, le-ltb}
 use Rattle.floats.proofs.Bools.{both}
 use Rattle.fields.specs.declared.Field.{Field}
-use Rattle.fields.specs.Fields.Found.{Row}
+use Rattle.std.specs.Prelude.{Some}
 use Rattle.fields.specs.Fields.{fields, owner_bit, owns, holds, field_at, found, all_found, whole_field}
 use Rattle.fields.proofs.Computed.{every, below, at_number, everywhere}
 use Rattle.fields.proofs.Registers.{Shape, shaped, shape, every_shaped, unheld, past, held_parts, found_inside, whole-registers}
@@ -148,7 +148,7 @@ all_found_ends start count e h = go (ltb start 500) refl
     go false q = absurd (false≢true (sym (ap found (past start (ltb-false start 500 q))) ∙ rw add-zero at (all_found_at start count 0 e h)))
 
 -- the registers of a whole field exist
-pub whole_found : (start count : ℕ) (f : Field) → whole_field start count ≡ Row f → all_found start count ≡ true
+pub whole_found : (start count : ℕ) (f : Field) → whole_field start count ≡ Some f → all_found start count ≡ true
 whole_found start count f e = all start count (λ i h. ap found (whole-registers start count f e i h))
   where
     all : (r n : ℕ) → ((i : ℕ) → i < n → found (field_at (r + i)) ≡ true) → all_found r n ≡ true

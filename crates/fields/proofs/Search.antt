@@ -12,38 +12,44 @@ use lib.ListN.{length, get_or, take, drop}
 use lib.Seq.{drop-cons}
 use borrow.Author.Tests.{ltb-true, ne_eqb, not-true}
 use Rattle.floats.proofs.Bools.{both}
+use Rattle.fields.specs.declared.Access.TheVariants.{ReadOnly}
 use Rattle.fields.specs.declared.Field.{Field}
 use Rattle.fields.specs.Fields.{field, fields, exactly, first_of, whole_field}
-use Rattle.fields.specs.Fields.Found.{Row}
+use Rattle.std.specs.Prelude.{Some}
 use Rattle.fields.proofs.Computed.{every}
 use Rattle.fields.proofs.Registers.{Shape, shaped, shape, every_shaped}
 use Rattle.fields.proofs.Runs.{reach, reached, before, half_before}
 
 -- what stands past the table's end
 abbrev pub no_field : Field
-no_field = field 0 0 0 0
+no_field = field 0 0 ReadOnly 0
 
-module _ (i : ℕ) (h : i < length fields) where
+module _ (fs : List Field) (i : ℕ) (h : i < length fs) where
   -- what is left from a row on
-  from_row : drop i fields ≡ get_or fields i no_field ∷ drop (i + 1) fields
-  from_row = rw (add-one, drop-cons fields i no_field)
+  from_row : drop i fs ≡ get_or fs i no_field ∷ drop (i + 1) fs
+  from_row = rw (add-one, drop-cons fs i no_field)
 
   -- a search stops at a row that passes
-  pub hit : (t : Field → Bool) → t (get_or fields i no_field) ≡ true → first_of t (drop i fields) ≡ Row (get_or fields i no_field)
+  pub hit : (t : Field → Bool) → t (get_or fs i no_field) ≡ true → first_of t (drop i fs) ≡ Some (get_or fs i no_field)
   hit t e = rw (from_row, e)
 
   -- it goes on at a row that doesn't
-  pub miss : (t : Field → Bool) → t (get_or fields i no_field) ≡ false → first_of t (drop i fields) ≡ first_of t (drop (i + 1) fields)
+  pub miss : (t : Field → Bool) → t (get_or fs i no_field) ≡ false → first_of t (drop i fs) ≡ first_of t (drop (i + 1) fs)
   miss t e = rw (from_row, e)
 
   -- the pass over the rows takes each in turn
-  pub more : (owner at : ℕ) → reached (drop i fields) owner at ≡ reached (drop (i + 1) fields) owner (reach (get_or fields i no_field) owner at)
+  pub more : (owner at : ℕ) → reached (drop i fs) owner at ≡ reached (drop (i + 1) fs) owner (reach (get_or fs i no_field) owner at)
   more owner at = rw from_row
 
--- a row by its index has a row's shape
-pub row_shape : (i : ℕ) → i < length fields → Shape (get_or fields i no_field)
-row_shape i h = shape _ (at fields every_shaped i h)
+-- a row by its index, of the table from some row on, has a row's shape
+pub row_shape : (k i : ℕ) → i < length (drop k fields) → Shape (get_or (drop k fields) i no_field)
+row_shape k i h = shape _ (at (drop k fields) (later k fields every_shaped) i h)
   where
+    later : (k : ℕ) (fs : List Field) → every shaped fs ≡ true → every shaped (drop k fs) ≡ true
+    later zero fs e = e
+    later (suc k) [] e = refl
+    later (suc k) (f ∷ fs) e = later k fs (both (shaped f) (every shaped fs) e).1
+
     at : (fs : List Field) → every shaped fs ≡ true → (i : ℕ) → i < length fs → shaped (get_or fs i no_field) ≡ true
     at [] e i h = absurd (not-suc-le-zero h)
     at (f ∷ fs) e zero h = (both (shaped f) (every shaped fs) e).0

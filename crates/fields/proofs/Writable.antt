@@ -1,33 +1,34 @@
 -- Which fields can be written, and whose they are, by tests computed over the rows. Assumes nothing.
-use mathlib.Core.Path.{◌≡◌, refl}
+use mathlib.Core.Path.{◌≡◌, refl, ap}
 use mathlib.Core.Bool.{Bool, true, ◌&&◌, ◌||◌, not}
 use Prim.Native.Nat.{ℕ, ◌/◌, ◌≤◌}
 use native.Mathlib.Omega.{arith}
 use lib.Dec.{eqb, leb}
-use borrow.Author.Tests.{eqb-true, eq-eqb, ne_eqb}
+use borrow.Author.Tests.{eqb-true}
+use Rattle.fields.specs.declared.Access.TheVariants.{ReadOnly, Modal}
 use Rattle.fields.specs.declared.Field.{Field}
-use Rattle.fields.specs.Fields.Found.{Row}
-use Rattle.fields.specs.Fields.{fields, owner_bit, owns, field_at}
-use Rattle.fields.proofs.Computed.{other, given, every}
+use Rattle.std.specs.Prelude.{Some}
+use Rattle.fields.specs.Fields.{is_read_only, is_modal, fields, owner_bit, owns, field_at}
+use Rattle.fields.proofs.Computed.{other, given, not_read_only, every}
 use Rattle.fields.proofs.Registers.{owner_below, found_test, found_covered}
 
 -- the owner of a register is the device or a sensor
-pub found_owner : (r : ℕ) (f : Field) → field_at r ≡ Row f → r / 100 ≤ 4
+pub found_owner : (r : ℕ) (f : Field) → field_at r ≡ Some f → r / 100 ≤ 4
 found_owner r f e = omega (arith, owner_below f (r / 100) (found_covered r f e).owned)
 
 written : Field → Bool
-written f = eqb f.access 0 || (not (owns f 0) || eqb f.offset 9)
+written f = is_read_only f.access || (not (owns f 0) || eqb f.offset 9)
 
 every_written : every written fields ≡ true
 unfolding written owns owner_bit
 every_written = refl
 
 -- the device's one field that can be written is the technician's number, register 9
-pub device_written_lem : (r : ℕ) (f : Field) → field_at r ≡ Row f → (f.access ≡ 0 → ⊥) → r / 100 ≡ 0 → f.offset ≡ 9
+pub device_written_lem : (r : ℕ) (f : Field) → field_at r ≡ Some f → (f.access ≡ ReadOnly → ⊥) → r / 100 ≡ 0 → f.offset ≡ 9
 unfolding written
 device_written_lem r f e a z =
     let o : owns f 0 ≡ true = rw z at (found_covered r f e).owned in
-    let t = other (eqb f.access 0) (not (owns f 0) || eqb f.offset 9) (ne_eqb f.access 0 a) (found_test written every_written r f e) in
+    let t = other (is_read_only f.access) (not (owns f 0) || eqb f.offset 9) (not_read_only f.access a) (found_test written every_written r f e) in
     eqb-true f.offset 9 (given (owns f 0) (eqb f.offset 9) t o)
 
 -- the method's, a coefficient's or a point's offset
@@ -35,13 +36,13 @@ abbrev pub calibration_offset : ℕ → Bool
 calibration_offset o = eqb o 6 || (leb 10 o && leb o 23)
 
 modal : Field → Bool
-modal f = not (eqb f.access 2) || calibration_offset f.offset
+modal f = not (is_modal f.access) || calibration_offset f.offset
 
 every_modal : every modal fields ≡ true
 unfolding modal
 every_modal = refl
 
 -- what is writable in mode only is the method, a coefficient or a point
-pub modal_field : (r : ℕ) (f : Field) → field_at r ≡ Row f → f.access ≡ 2 → calibration_offset f.offset ≡ true
+pub modal_field : (r : ℕ) (f : Field) → field_at r ≡ Some f → f.access ≡ Modal → calibration_offset f.offset ≡ true
 unfolding modal
-modal_field r f e a = given (eqb f.access 2) (calibration_offset f.offset) (found_test modal every_modal r f e) (eq-eqb f.access 2 a)
+modal_field r f e a = given (is_modal f.access) (calibration_offset f.offset) (found_test modal every_modal r f e) (ap is_modal a)

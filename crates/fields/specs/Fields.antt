@@ -1,60 +1,73 @@
 -- The map of registers as one table of fields: which registers exist, which are one whole field, and which can be written. Document 01,
 -- "Register map". Assumes nothing.
-use Rattle.std.specs.Prelude.{Bool, true, false, ◌&&◌, not, cond, List, [], ◌∷◌, ℕ, zero, suc, ◌+◌, ◌/◌, ◌%◌, eqb, leb, ltb}
+use Rattle.std.specs.Prelude.{Bool, true, false, ◌&&◌, not, cond, List, [], ◌∷◌, Option, Some, None, Result, Ok, Err, ℕ, zero, suc, ◌+◌, ◌/◌, ◌%◌, eqb, leb, ltb}
 use Rattle.std.specs.Int.Bits.{bit_and}
+use Rattle.refusals.specs.declared.codes.Code.{Code}
+use Rattle.refusals.specs.declared.codes.Code.TheVariants.{IllegalDataAddress}
+use Rattle.fields.specs.declared.Access.{Access}
+use Rattle.fields.specs.declared.Access.TheVariants.{ReadOnly, Writable, Modal}
 use Rattle.fields.specs.declared.Field.{Field}
-use Rattle.fields.specs.declared.Span.{Span}
-use Rattle.fields.specs.declared.Span.TheVariants.{Whole, Mismatch, Gap}
 
--- offset, words, access ("W is writable, M writable in mode only, the rest read-only": 1, 2, 0) and owners (bit 0 the device, bit s sensor s):
--- 1 is the device, 30 all sensors, 22 sensors 1, 2 and 4, 10 sensors 1 and 3, 8 sensor 3, 2 sensor 1
-abbrev pub field : ℕ → ℕ → ℕ → ℕ → Field
+-- "W is writable, M writable in mode only, the rest read-only"
+abbrev pub is_read_only : Access → Bool
+is_read_only ReadOnly = true
+is_read_only Writable = false
+is_read_only Modal = false
+
+abbrev pub is_modal : Access → Bool
+is_modal ReadOnly = false
+is_modal Writable = false
+is_modal Modal = true
+
+-- offset, words, access and owners (bit 0 the device, bit s sensor s): 1 is the device, 30 all sensors, 22 sensors 1, 2 and 4, 10 sensors 1 and 3,
+-- 8 sensor 3, 2 sensor 1
+abbrev pub field : ℕ → ℕ → Access → ℕ → Field
 field offset words access owners = record { offset = offset; words = words; access = access; owners = owners }
 
 -- an owner's fields stand in the order of their offsets
 abbrev pub fields : List Field
 fields =
-    field 0 1 0 1 ∷  -- the map's version
-    field 1 1 0 1 ∷  -- the device's id
-    field 2 2 0 1 ∷  -- the clock
-    field 4 1 0 1 ∷  -- good messages
-    field 5 1 0 1 ∷  -- bad messages
-    field 6 1 0 1 ∷  -- exceptions
-    field 7 1 0 1 ∷  -- the journal's capacity
-    field 8 1 0 1 ∷  -- entries in use
-    field 9 1 1 1 ∷  -- the technician's number; document 02, wish 3: "Device register 9 becomes writable"
-    field 0 1 0 30 ∷  -- the sensor's number
-    field 1 2 0 30 ∷  -- last calibration
-    field 3 2 1 30 ∷  -- next calibration
-    field 5 1 1 30 ∷  -- command
-    field 6 1 2 22 ∷  -- method
-    field 7 1 0 30 ∷  -- number of parameters
-    field 10 2 2 30 ∷  -- coefficient 1
-    field 12 2 2 30 ∷  -- coefficient 2
-    field 14 2 2 8 ∷  -- coefficient 3
-    field 16 2 2 22 ∷  -- x1
-    field 18 2 2 22 ∷  -- y1
-    field 20 2 2 22 ∷  -- x2
-    field 22 2 2 22 ∷  -- y2
-    field 30 2 0 30 ∷  -- parameter 1: value
-    field 32 1 0 30 ∷  -- parameter 1: id
-    field 33 1 1 30 ∷  -- parameter 1: units
-    field 34 1 0 30 ∷  -- parameter 1: quality
-    field 35 2 1 30 ∷  -- parameter 1: sentinel
-    field 37 1 0 30 ∷  -- parameter 1: available units
-    field 38 2 0 10 ∷  -- parameter 2: value
-    field 40 1 0 2 ∷  -- parameter 2: id, of sensor 1
-    field 40 1 1 8 ∷  -- parameter 2: id, of the level
-    field 41 1 1 10 ∷  -- parameter 2: units
-    field 42 1 0 10 ∷  -- parameter 2: quality
-    field 43 2 1 10 ∷  -- parameter 2: sentinel
-    field 45 1 0 10 ∷  -- parameter 2: available units
-    field 46 2 0 2 ∷  -- parameter 3: value
-    field 48 1 0 2 ∷  -- parameter 3: id
-    field 49 1 1 2 ∷  -- parameter 3: units
-    field 50 1 0 2 ∷  -- parameter 3: quality
-    field 51 2 1 2 ∷  -- parameter 3: sentinel
-    field 53 1 0 2 ∷  -- parameter 3: available units
+    field 0 1 ReadOnly 1 ∷  -- the map's version
+    field 1 1 ReadOnly 1 ∷  -- the device's id
+    field 2 2 ReadOnly 1 ∷  -- the clock
+    field 4 1 ReadOnly 1 ∷  -- good messages
+    field 5 1 ReadOnly 1 ∷  -- bad messages
+    field 6 1 ReadOnly 1 ∷  -- exceptions
+    field 7 1 ReadOnly 1 ∷  -- the journal's capacity
+    field 8 1 ReadOnly 1 ∷  -- entries in use
+    field 9 1 Writable 1 ∷  -- the technician's number; document 02, wish 3: "Device register 9 becomes writable"
+    field 0 1 ReadOnly 30 ∷  -- the sensor's number
+    field 1 2 ReadOnly 30 ∷  -- last calibration
+    field 3 2 Writable 30 ∷  -- next calibration
+    field 5 1 Writable 30 ∷  -- command
+    field 6 1 Modal 22 ∷  -- method
+    field 7 1 ReadOnly 30 ∷  -- number of parameters
+    field 10 2 Modal 30 ∷  -- coefficient 1
+    field 12 2 Modal 30 ∷  -- coefficient 2
+    field 14 2 Modal 8 ∷  -- coefficient 3
+    field 16 2 Modal 22 ∷  -- x1
+    field 18 2 Modal 22 ∷  -- y1
+    field 20 2 Modal 22 ∷  -- x2
+    field 22 2 Modal 22 ∷  -- y2
+    field 30 2 ReadOnly 30 ∷  -- parameter 1: value
+    field 32 1 ReadOnly 30 ∷  -- parameter 1: id
+    field 33 1 Writable 30 ∷  -- parameter 1: units
+    field 34 1 ReadOnly 30 ∷  -- parameter 1: quality
+    field 35 2 Writable 30 ∷  -- parameter 1: sentinel
+    field 37 1 ReadOnly 30 ∷  -- parameter 1: available units
+    field 38 2 ReadOnly 10 ∷  -- parameter 2: value
+    field 40 1 ReadOnly 2 ∷  -- parameter 2: id, of sensor 1
+    field 40 1 Writable 8 ∷  -- parameter 2: id, of the level
+    field 41 1 Writable 10 ∷  -- parameter 2: units
+    field 42 1 ReadOnly 10 ∷  -- parameter 2: quality
+    field 43 2 Writable 10 ∷  -- parameter 2: sentinel
+    field 45 1 ReadOnly 10 ∷  -- parameter 2: available units
+    field 46 2 ReadOnly 2 ∷  -- parameter 3: value
+    field 48 1 ReadOnly 2 ∷  -- parameter 3: id
+    field 49 1 Writable 2 ∷  -- parameter 3: units
+    field 50 1 ReadOnly 2 ∷  -- parameter 3: quality
+    field 51 2 Writable 2 ∷  -- parameter 3: sentinel
+    field 53 1 ReadOnly 2 ∷  -- parameter 3: available units
     []
 
 -- the bit of the owner whose registers begin at 100 × owner: 0 is the device, 1..4 are the sensors; nobody else owns a field
@@ -73,23 +86,18 @@ holds f owner offset = owns f owner && leb f.offset offset && ltb offset (f.offs
 unfoldable pub exactly : Field → ℕ → ℕ → ℕ → Bool
 exactly f owner offset count = owns f owner && eqb f.offset offset && eqb f.words count
 
--- what a search of the table finds
-pub data Found : Type 0 where
-  Row : Field → Found
-  Absent : Found
-
 -- the first row that passes a test
-abbrev pub first_of : (Field → Bool) → List Field → Found
-first_of t [] = Absent
-first_of t (f ∷ fs) = cond (t f) (Row f) (first_of t fs)
+abbrev pub first_of : (Field → Bool) → List Field → Option Field
+first_of t [] = None
+first_of t (f ∷ fs) = cond (t f) (Some f) (first_of t fs)
 
 -- "Sensor s begins at 100 × s"; the device's registers begin at 0
-unfoldable pub field_at : ℕ → Found
+unfoldable pub field_at : ℕ → Option Field
 field_at register = first_of (λ f. holds f (register / 100) (register % 100)) fields
 
-abbrev pub found : Found → Bool
-found (Row f) = true
-found Absent = false
+abbrev pub found : Option Field → Bool
+found (Some f) = true
+found None = false
 
 -- "a register named is absent, or past 0xFFFF": count registers from r on all exist
 abbrev pub all_found : ℕ → ℕ → Bool
@@ -97,21 +105,10 @@ all_found r zero = true
 all_found r (suc n) = found (field_at r) && all_found (suc r) n
 
 -- "exactly one whole field"
-unfoldable pub whole_field : ℕ → ℕ → Found
+unfoldable pub whole_field : ℕ → ℕ → Option Field
 whole_field start count = first_of (λ f. exactly f (start / 100) (start % 100) count) fields
 
--- ---- registers that adjoin
-
-abbrev pub span_in : Found → Span
-span_in (Row f) = Whole f
-span_in Absent = Mismatch
-
--- what count registers from start on are: with one absent among them, one whole field, or neither
-unfoldable pub span_of : ℕ → ℕ → Span
-span_of start count = cond (all_found start count) (span_in (whole_field start count)) Gap
-
--- document 01's code for each: "2: a register named is absent, or past 0xFFFF", "0x80: a write isn't exactly one whole field"; 0 is no refusal
-abbrev pub code_of : Span → ℕ
-code_of Gap = 2
-code_of Mismatch = 0x80
-code_of (Whole f) = 0
+-- what count registers from start on are: the one whole field that they are, or none where they all exist and aren't one; code 2: "a register named is
+-- absent, or past 0xFFFF"
+unfoldable pub span_of : ℕ → ℕ → Result (Option Field) Code
+span_of start count = cond (all_found start count) (Ok (whole_field start count)) (Err IllegalDataAddress)

@@ -4,6 +4,7 @@ use mathlib.Core.List.{List}
 use Prim.Native.Nat.{ℕ, ◌/◌, ◌%◌, ◌≤◌}
 use lib.Dec.{lit≤}
 use lib.ListN.{length}
+use Rattle.refusals.specs.Codes.{byte_of}
 use Rattle.modbus.specs.declared.Header.{Header}
 use Rattle.sensors.specs.declared.Sensor.{Sensor}
 use Rattle.registers.specs.declared.Device.{Device}
@@ -46,7 +47,7 @@ pub step_short : (h : Header) (body : List ℕ) (own : ℕ) (e : Device) (s : Se
 step_short h body own e s w Bad f l = lit≤ tt
 step_short h body own e s w Foreign f l = lit≤ tt
 step_short h body own e s w BroadcastRead f l = lit≤ tt
-step_short h body own e s w (Refused code) f l = (refusal_sized h body code).most
+step_short h body own e s w (Refused code) f l = (refusal_sized h body (byte_of code)).most
 step_short h body own e s w (Reading start count) f l =
     let r = register_of (start / 100) e s in
     (read_sized own (shown_from r (start % 100) count) (rw (shown_length r (start % 100) count) f.most)).most

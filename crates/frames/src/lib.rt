@@ -15,30 +15,31 @@ ghost use Rattle.execution.specs.Steps.{effect_of};
 ghost use Rattle.frames.specs.Steps.{step_of, step_for, served_of};
 
 use admission::Judged;
-use execution::{Change, Effect};
+use execution::Effect;
 use modbus::Header;
 use plans::Plan;
-use sensors::Sensor;
+use sensors::{Sensor, Setup};
 use service::Arrival;
 use state::{Counters, Event};
 
-// What comes of a frame: how it counts, the length of its reply, what it changes of the sensors, and the technician's number that it leaves.
+// What comes of a frame: how it counts, the length of its reply, the setup that it leaves the sensor that it names, if it changes it,
+// and the technician's number that it leaves.
 #[derive(Clone, Copy)]
 pub struct Served {
     pub event: Event,
     pub length: u16,
-    pub change: Change,
+    pub change: Option<Setup>,
     pub technician: u16,
 }
 
 // A frame that changes nothing but the counters.
 fn counted(event: Event, size: usize, technician: u16) -> Effect
-    ensures { result ≡ record { event = event; size = size; change = Change.Nothing; technician = technician } }
+    ensures { result ≡ record { event = event; size = size; change = None; technician = technician } }
 {
     Effect {
         event,
         size,
-        change: Change::Nothing,
+        change: None,
         technician,
     }
 }

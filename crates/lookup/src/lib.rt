@@ -3,14 +3,14 @@
 #![tactic(auto)]
 
 ghost use Rattle.std.specs.Prelude.{◌≡◌, ◌+◌, ◌≤◌};
-ghost use Rattle.fields.specs.Fields.{owner_bit, span_of, code_of};
+ghost use Rattle.fields.specs.Fields.{owner_bit, span_of};
 ghost use Rattle.lookup.specs.Steps.{reach_by};
 
 pub mod rows; // the table
 
 use crate::rows::ROWS;
-use fields::{Field, Span};
-use refusals::codes;
+use fields::Field;
+use refusals::codes::Code;
 
 // The bit of an owner: 0 is the device, 1 to 4 are the sensors.
 #[tactic(auto, unfolding(fields::specs::Fields::owner_bit))]
@@ -28,6 +28,7 @@ fn owner_bit(owner: u16) -> u8
 }
 
 // The offset that isn't known to exist yet: past the field, where the field holds it.
+#[tactic(auto, unfolding(crate::specs::Steps::reach_by))]
 fn reach(f: Field, bit: u8, at: u16) -> u16
     requires { f.offset + f.words ≤ 65535 }
     ensures { result ≡ reach_by f bit at }
@@ -39,42 +40,29 @@ fn reach(f: Field, bit: u8, at: u16) -> u16
     at
 }
 
-// What `count` registers from `start` on are, in one pass over the rows; none past 0xFFFF exists. No row has more than two words, so none
-// before row offset / 2 holds the first register.
-#[tactic(auto, using(crate::proofs::Ends::reached_none, crate::proofs::Ends::first_none, crate::proofs::Ends::span_inside, crate::proofs::Ends::span_past))]
-pub fn span(start: u16, count: u16) -> Span
+// What `count` registers from `start` on are, in one pass over the rows: the one whole field that they are, or none where they all exist and aren't
+// one. None past 0xFFFF exists. No row has more than two words, so none before row offset / 2 holds the first register.
+#[tactic(auto, using(fields::proofs::Spans::span_unowned, crate::proofs::Ends::reached_none, crate::proofs::Ends::first_none, crate::proofs::Ends::span_inside, crate::proofs::Ends::span_past))]
+pub fn span(start: u16, count: u16) -> Result<Option<Field>, Code>
     ensures { result ≡ span_of start count }
 {
     let offset = start % 100;
     let bit = owner_bit(start / 100);
     if (bit == 0) & (0 < count) {
-        return Span::Gap;
+        return Err(Code::IllegalDataAddress);
     }
     let end = (offset as u32) + (count as u32);
     let table = rows::table();
+    let first = usize::min((offset / 2) as usize, ROWS);
     let mut at = offset;
-    let mut i = (offset / 2) as usize;
-    while i < ROWS {
-        let f = table[i];
+    for f in &table[first..] {
         if (f.owners & bit != 0) & (f.offset == offset) & (f.words == count) {
-            return Span::Whole(f);
+            return Ok(Some(*f));
         }
-        at = reach(f, bit, at);
-        i += 1;
+        at = reach(*f, bit, at);
     }
     if end <= (at as u32) {
-        return Span::Mismatch;
+        return Ok(None);
     }
-    Span::Gap
-}
-
-// 0, or the code that refuses the registers.
-pub fn code_of(s: Span) -> u8
-    ensures { result ≡ code_of s }
-{
-    match s {
-        Span::Gap => codes::ILLEGAL_DATA_ADDRESS,
-        Span::Mismatch => codes::FIELD_MISMATCH,
-        Span::Whole(_) => 0,
-    }
+    Err(Code::IllegalDataAddress)
 }

@@ -7,6 +7,7 @@ use lib.Dec.{T, eqb}
 use lib.Ieee.{binary32, fits, sub, mul, eq}
 use lib.Ieee.Bits.{of_bits-fits}
 use lib.Ieee.Fits.{sub-fits, div-fits}
+use Rattle.std.specs.Prelude.{Result, Ok, Err}
 use Rattle.floats.specs.Floats.{plus_zero}
 use Rattle.floats.proofs.Bools.{choose}
 use Rattle.coefficients.specs.Coefficients.{all_finite, in_limits}
@@ -15,10 +16,9 @@ use Rattle.coefficients.specs.declared.Coefficients.{Coefficients}
 use Rattle.methods.specs.declared.Points.{Points}
 use Rattle.methods.specs.declared.Method.{Method}
 use Rattle.methods.specs.declared.Method.TheVariants.{Direct, OnePoint, TwoPoints}
-use Rattle.methods.specs.declared.Candidate.{Candidate}
-use Rattle.methods.specs.declared.Candidate.TheVariants.{Made, ZeroX, SameX}
-use Rattle.methods.specs.declared.Verdict.{Verdict}
-use Rattle.methods.specs.declared.Verdict.TheVariants.{Accepted, OutsideLimits, NotFinite, Undefined}
+use Rattle.methods.specs.declared.Undefined.{Undefined}
+use Rattle.methods.specs.declared.Rejection.{Rejection}
+use Rattle.methods.specs.declared.Rejection.TheVariants.{OutsideLimits, NotFinite, Undefined as UndefinedBy}
 use Rattle.coefficients.proofs.Bits.{CoefficientsFit}
 use Rattle.coefficients.proofs.Limits.{limits_finite}
 
@@ -28,15 +28,15 @@ use Rattle.coefficients.proofs.Limits.{limits_finite}
 pub record Judged (s : ℕ) (m : Method) (c : Coefficients) (within : Bool) : Type 0 where
   pub all_finite_holds : all_finite c ≡ true
   pub limits : in_limits s c ≡ within
-  pub made : candidate_of m ≡ Made c
+  pub made : candidate_of m ≡ Ok c
 
 module _ (s : ℕ) (m : Method) (c : Coefficients) where
-  judged : (within : Bool) → judged_of s m ≡ cond within (Accepted c) (OutsideLimits c) → Judged s m c within
+  judged : (within : Bool) → judged_of s m ≡ cond within (Ok c) (Err (OutsideLimits c)) → Judged s m c within
   unfolding judged_of verdict_of
   judged within = of within (candidate_of m) refl
     where
-      limited : (w : Bool) (d : Coefficients) (f l : Bool) → candidate_of m ≡ Made d → all_finite d ≡ f → in_limits s d ≡ l
-          → cond f (cond l (Accepted d) (OutsideLimits d)) NotFinite ≡ cond w (Accepted c) (OutsideLimits c) → Judged s m c w
+      limited : (w : Bool) (d : Coefficients) (f l : Bool) → candidate_of m ≡ Ok d → all_finite d ≡ f → in_limits s d ≡ l
+          → cond f (cond l (Ok d) (Err (OutsideLimits d))) (Err NotFinite) ≡ cond w (Ok c) (Err (OutsideLimits c)) → Judged s m c w
       limited true d true true k f l e = record { all_finite_holds = cc; limits = cc; made = cc }
       limited false d true false k f l e = record { all_finite_holds = cc; limits = cc; made = cc }
       limited true d true false k f l e = let z : ◌≡◌ {A = ℕ} 0 1 = cc in absurd (omega arith)
@@ -44,62 +44,60 @@ module _ (s : ℕ) (m : Method) (c : Coefficients) where
       limited true d false l₀ k f l e = let z : ◌≡◌ {A = ℕ} 0 1 = cc in absurd (omega arith)
       limited false d false l₀ k f l e = let z : ◌≡◌ {A = ℕ} 0 1 = cc in absurd (omega arith)
 
-      of : (w : Bool) (k : Candidate) → candidate_of m ≡ k → verdict_of s k ≡ cond w (Accepted c) (OutsideLimits c) → Judged s m c w
-      of w (Made d) k e = limited w d (all_finite d) (in_limits s d) k refl refl e
-      of true ZeroX k e = let z : ◌≡◌ {A = ℕ} 0 1 = cc in absurd (omega arith)
-      of false ZeroX k e = let z : ◌≡◌ {A = ℕ} 0 1 = cc in absurd (omega arith)
-      of true SameX k e = let z : ◌≡◌ {A = ℕ} 0 1 = cc in absurd (omega arith)
-      of false SameX k e = let z : ◌≡◌ {A = ℕ} 0 1 = cc in absurd (omega arith)
+      of : (w : Bool) (k : Result Coefficients Undefined) → candidate_of m ≡ k → verdict_of s k ≡ cond w (Ok c) (Err (OutsideLimits c)) → Judged s m c w
+      of w (Ok d) k e = limited w d (all_finite d) (in_limits s d) k refl refl e
+      of true (Err cause) k e = let z : ◌≡◌ {A = ℕ} 0 1 = cc in absurd (omega arith)
+      of false (Err cause) k e = let z : ◌≡◌ {A = ℕ} 0 1 = cc in absurd (omega arith)
 
   -- what is accepted is within the limits
-  pub accepted : judged_of s m ≡ Accepted c → Judged s m c true
+  pub accepted : judged_of s m ≡ Ok c → Judged s m c true
   accepted = judged true
 
   -- what is refused for its limits alone is finite and outside them
-  pub outside_limits_holds : judged_of s m ≡ OutsideLimits c → Judged s m c false
+  pub outside_limits_holds : judged_of s m ≡ Err (OutsideLimits c) → Judged s m c false
   outside_limits_holds = judged false
 
   -- and each finite candidate outside them is
-  pub fails : candidate_of m ≡ Made c → all_finite c ≡ true → in_limits s c ≡ false → judged_of s m ≡ OutsideLimits c
+  pub fails : candidate_of m ≡ Ok c → all_finite c ≡ true → in_limits s c ≡ false → judged_of s m ≡ Err (OutsideLimits c)
   unfolding judged_of verdict_of
   fails k f l = rw (k, f, l)
 
 -- a candidate in limits is accepted
-pub accepts : (s : ℕ) (m : Method) (c : Coefficients) → candidate_of m ≡ Made c → in_limits s c ≡ true → judged_of s m ≡ Accepted c
+pub accepts : (s : ℕ) (m : Method) (c : Coefficients) → candidate_of m ≡ Ok c → in_limits s c ≡ true → judged_of s m ≡ Ok c
 unfolding judged_of verdict_of
 accepts s m c k h = rw (k, limits_finite s c h, h)
 
 -- what a method gives does not depend on the sensor
-pub sensor_free : (s t : ℕ) (m : Method) (c d : Coefficients) → judged_of s m ≡ Accepted c → judged_of t m ≡ Accepted d → c ≡ d
+pub sensor_free : (s t : ℕ) (m : Method) (c d : Coefficients) → judged_of s m ≡ Ok c → judged_of t m ≡ Ok d → c ≡ d
 sensor_free s t m c d p q =
-    let a : candidate_of m ≡ Made c = (accepted s m c p).made in
-    let b : candidate_of m ≡ Made d = (accepted t m d q).made in
+    let a : candidate_of m ≡ Ok c = (accepted s m c p).made in
+    let b : candidate_of m ≡ Ok d = (accepted t m d q).made in
     cc
 
 -- ---- codes
 
 -- a verdict that accepts, with its coefficients
-pub record IsAccepted (v : Verdict) : Type 0 where
+pub record IsAccepted (v : Result Coefficients Rejection) : Type 0 where
   pub which : Coefficients
-  pub is : v ≡ Accepted which
+  pub is : v ≡ Ok which
 
 -- the code 0 is that of an accepted update
-pub code_zero : (v : Verdict) → code_of v ≡ 0 → IsAccepted v
-code_zero (Accepted c) e = record { which = c; is = refl }
-code_zero (OutsideLimits c) e = absurd (omega arith)
-code_zero NotFinite e = absurd (omega arith)
-code_zero Undefined e = absurd (omega arith)
+pub code_zero : (v : Result Coefficients Rejection) → code_of v ≡ 0 → IsAccepted v
+code_zero (Ok c) e = record { which = c; is = refl }
+code_zero (Err (OutsideLimits c)) e = absurd (omega arith)
+code_zero (Err NotFinite) e = absurd (omega arith)
+code_zero (Err (UndefinedBy cause)) e = absurd (omega arith)
 
 -- and each accepted update has it
-pub code_accepted : (v : Verdict) (c : Coefficients) → v ≡ Accepted c → code_of v ≡ 0
+pub code_accepted : (v : Result Coefficients Rejection) (c : Coefficients) → v ≡ Ok c → code_of v ≡ 0
 code_accepted v c e = rw e
 
 -- any other code is 0x97
-pub code_refused : (v : Verdict) → (code_of v ≡ 0 → ⊥) → code_of v ≡ 0x97
-code_refused (Accepted c) n = absurd (n refl)
-code_refused (OutsideLimits c) n = refl
-code_refused NotFinite n = refl
-code_refused Undefined n = refl
+pub code_refused : (v : Result Coefficients Rejection) → (code_of v ≡ 0 → ⊥) → code_of v ≡ 0x97
+code_refused (Ok c) n = absurd (n refl)
+code_refused (Err (OutsideLimits c)) n = refl
+code_refused (Err NotFinite) n = refl
+code_refused (Err (UndefinedBy cause)) n = refl
 
 -- ---- floats of the format
 
@@ -117,10 +115,9 @@ MethodFits (OnePoint x1 y1) = T (fits binary32 x1) × T (fits binary32 y1)
 MethodFits (TwoPoints x1 y1 x2 y2) = T (fits binary32 x1) × T (fits binary32 y1) × T (fits binary32 x2) × T (fits binary32 y2)
 
 -- a candidate, where there is one, that fits the format
-abbrev pub CandidateFits : Candidate → Type 0
-CandidateFits (Made c) = CoefficientsFit c
-CandidateFits ZeroX = Unit {0}
-CandidateFits SameX = Unit {0}
+abbrev pub CandidateFits : Result Coefficients Undefined → Type 0
+CandidateFits (Ok c) = CoefficientsFit c
+CandidateFits (Err cause) = Unit {0}
 
 -- what a method makes of floats of the format fits the format
 pub candidate_fits : (m : Method) → MethodFits m → CandidateFits (candidate_of m)
@@ -138,7 +135,7 @@ candidate_fits (TwoPoints x1 y1 x2 y2) t =
     })
 
 -- so does what it makes
-pub made_fits : (m : Method) (c : Coefficients) → MethodFits m → candidate_of m ≡ Made c → CoefficientsFit c
+pub made_fits : (m : Method) (c : Coefficients) → MethodFits m → candidate_of m ≡ Ok c → CoefficientsFit c
 made_fits m c t e = rw e at (candidate_fits m t)
 
 -- a method of coefficients and points that fit the format
@@ -171,7 +168,7 @@ number_and_back (suc (suc zero)) c p h = refl
 number_and_back (suc (suc (suc n))) c p h = absurd (omega arith)
 
 -- a method comes back from its number, its points and the coefficients that it makes, which only the direct method takes
-pub method_and_back : (m : Method) (c : Coefficients) → candidate_of m ≡ Made c → method_of (method_number m) c (points_of m) ≡ m
+pub method_and_back : (m : Method) (c : Coefficients) → candidate_of m ≡ Ok c → method_of (method_number m) c (points_of m) ≡ m
 unfolding method_of candidate_of
 method_and_back (Direct a b d) c k = cc
 method_and_back (OnePoint x1 y1) c k = refl

@@ -13,7 +13,9 @@ use Rattle.modbus.specs.Request.{read_of, write_one_of, word2_of, write_many_of,
 use Rattle.modbus.specs.declared.Value.{Value}
 use Rattle.modbus.specs.declared.Value.TheVariants.{Words, Mask}
 use Rattle.modbus.specs.declared.Request.{Request}
-use Rattle.modbus.specs.declared.Request.TheVariants.{Unsupported, Malformed, Read, Write}
+use Rattle.modbus.specs.declared.Request.TheVariants.{Read, Write}
+use Rattle.refusals.specs.declared.codes.Code.{Code}
+use Rattle.std.specs.Prelude.{Result, Ok, Err}
 
 abbrev Word : ℕ → Type 0
 Word n = n < 65536
@@ -35,14 +37,13 @@ pub record WriteInRange (body : List ℕ) (start count : ℕ) (value : Value) : 
   pub most : count ≤ 123
   pub value_fits : Bytes body → ValueFits value
 
-abbrev pub InRange : List ℕ → Request → Type 0
-InRange body Unsupported = Unit {0}
-InRange body Malformed = Unit {0}
-InRange body (Read start count) = ReadInRange body start count
-InRange body (Write start count value) = WriteInRange body start count value
+abbrev pub InRange : List ℕ → Result Request Code → Type 0
+InRange body (Err code) = Unit {0}
+InRange body (Ok (Read start count)) = ReadInRange body start count
+InRange body (Ok (Write start count value)) = WriteInRange body start count value
 
 module _ (s : List ℕ) where
-  either : (b : Bool) (x y : Request) → (b ≡ true → InRange s x) → (b ≡ false → InRange s y) → InRange s (cond b x y)
+  either : (b : Bool) (x y : Result Request Code) → (b ≡ true → InRange s x) → (b ≡ false → InRange s y) → InRange s (cond b x y)
   either true x y f g = f refl
   either false x y f g = g refl
 
@@ -59,18 +60,18 @@ module _ (s : List ℕ) where
   read : InRange s (read_of s)
   unfolding read_of
   read =
-      either (eqb (length s) 6) _ Malformed
+      either (eqb (length s) 6) _ _
       (λ six.
-      either (ltb (word_at s 4) 1) Malformed _ (λ t. tt)
+      either (ltb (word_at s 4) 1) _ _ (λ t. tt)
       (λ least.
-      either (ltb 125 (word_at s 4)) Malformed (Read (word_at s 2) (word_at s 4)) (λ t. tt)
+      either (ltb 125 (word_at s 4)) _ (Ok (Read (word_at s 2) (word_at s 4))) (λ t. tt)
       (λ most. record { start_fits = word 2; least = ltb-false (word_at s 4) 1 least; most = ltb-false 125 (word_at s 4) most })))
       (λ t. tt)
 
   write_one : InRange s (write_one_of s)
   unfolding write_one_of
   write_one =
-      either (eqb (length s) 6) _ Malformed
+      either (eqb (length s) 6) _ _
       (λ six.
       record {
         long = omega (arith, eqb-true (length s) 6 six);
@@ -84,16 +85,16 @@ module _ (s : List ℕ) where
   write_many : InRange s (write_many_of s)
   unfolding write_many_of
   write_many =
-      let w = Write (word_at s 2) (word_at s 4) (Words (word_at s 7) (word2_of s)) in
-      either (ltb (length s) 9) Malformed _ (λ t. tt)
+      let w = Ok (Write (word_at s 2) (word_at s 4) (Words (word_at s 7) (word2_of s))) in
+      either (ltb (length s) 9) _ _ (λ t. tt)
       (λ nine.
-      either (ltb (word_at s 4) 1) Malformed _ (λ t. tt)
+      either (ltb (word_at s 4) 1) _ _ (λ t. tt)
       (λ least.
-      either (ltb 123 (word_at s 4)) Malformed _ (λ t. tt)
+      either (ltb 123 (word_at s 4)) _ _ (λ t. tt)
       (λ most.
-      either (eqb (get_or s 6 0) (2 * word_at s 4)) _ Malformed
+      either (eqb (get_or s 6 0) (2 * word_at s 4)) _ _
       (λ size.
-      either (eqb (length s) (7 + get_or s 6 0)) w Malformed
+      either (eqb (length s) (7 + get_or s 6 0)) w _
       (λ exact.
       record {
         long = omega (arith, ltb-false (length s) 9 nine);
@@ -108,7 +109,7 @@ module _ (s : List ℕ) where
   write_mask : InRange s (write_mask_of s)
   unfolding write_mask_of
   write_mask =
-      either (eqb (length s) 8) _ Malformed
+      either (eqb (length s) 8) _ _
       (λ eight.
       record {
         long = omega (arith, eqb-true (length s) 8 eight);
@@ -128,4 +129,4 @@ module _ (s : List ℕ) where
       either (eqb function 6) (write_one_of s) _ (λ u. write_one)
       (λ u.
       either (eqb function 16) (write_many_of s) _ (λ v. write_many)
-      (λ v. either (eqb function 22) (write_mask_of s) Unsupported (λ w. write_mask) (λ w. tt))))
+      (λ v. either (eqb function 22) (write_mask_of s) _ (λ w. write_mask) (λ w. tt))))

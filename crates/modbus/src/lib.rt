@@ -3,9 +3,9 @@
 #![tactic(auto)]
 
 ghost use Rattle.std.specs.Prelude.{◌≡◌, get_or};
-ghost use Rattle.modbus.specs.Request.{header_of, request_of, read_of, write_one_of, write_many_of, write_mask_of, code_of};
+ghost use Rattle.modbus.specs.Request.{header_of, request_of, read_of, write_one_of, write_many_of, write_mask_of};
 
-use refusals::codes;
+use refusals::codes::Code;
 
 // The first two bytes of a body.
 #[derive(Clone, Copy)]
@@ -25,10 +25,6 @@ pub enum Value {
 
 #[derive(Clone, Copy)]
 pub enum Request {
-    // Another function.
-    Unsupported,
-    // The length, the byte count or the count is wrong.
-    Malformed,
     Read {
         start: u16,
         count: u16,
@@ -45,10 +41,7 @@ pub enum Request {
 fn byte_at(body: &[u8], i: usize) -> u8
     ensures { result ≡ get_or body.now i 0 }
 {
-    if body.len() <= i {
-        return 0;
-    }
-    body[i]
+    body.get(i).copied().unwrap_or(0)
 }
 
 pub fn header_of(body: &[u8]) -> Header
@@ -60,9 +53,9 @@ pub fn header_of(body: &[u8]) -> Header
     }
 }
 
-// What a body with this function asks for.
+// What a body with this function asks for. Another function is refused; so is one whose length, byte count or count is wrong.
 #[tactic(auto, unfolding(crate::specs::Request::request_of))]
-pub fn decode_request(function: u8, body: &[u8]) -> Request
+pub fn decode_request(function: u8, body: &[u8]) -> Result<Request, Code>
     ensures { result ≡ request_of function body.now }
 {
     match function {
@@ -70,116 +63,87 @@ pub fn decode_request(function: u8, body: &[u8]) -> Request
         6 => decode_write_one(body),
         16 => decode_write_many(body),
         22 => decode_write_mask(body),
-        _ => Request::Unsupported,
+        _ => Err(Code::IllegalFunction),
     }
 }
 
 // Function 3: start and count.
 #[tactic(auto, unfolding(crate::specs::Request::read_of))]
-fn decode_read(body: &[u8]) -> Request
+fn decode_read(body: &[u8]) -> Result<Request, Code>
     ensures { result ≡ read_of body.now }
 {
     if body.len() != 6 {
-        return Request::Malformed;
+        return Err(Code::IllegalDataValue);
     }
     let start = words::word_at(body, 2);
     let count = words::word_at(body, 4);
-    if count < 1 {
-        return Request::Malformed;
+    if !(1..=125).contains(&count) {
+        return Err(Code::IllegalDataValue);
     }
-    if 125 < count {
-        return Request::Malformed;
-    }
-    Request::Read { start, count }
+    Ok(Request::Read { start, count })
 }
 
 // Function 6: register and value.
 #[tactic(auto, unfolding(crate::specs::Request::write_one_of))]
-fn decode_write_one(body: &[u8]) -> Request
+fn decode_write_one(body: &[u8]) -> Result<Request, Code>
     ensures { result ≡ write_one_of body.now }
 {
     if body.len() != 6 {
-        return Request::Malformed;
+        return Err(Code::IllegalDataValue);
     }
     let start = words::word_at(body, 2);
     let word1 = words::word_at(body, 4);
-    Request::Write {
+    Ok(Request::Write {
         start,
         count: 1,
         value: Value::Words { word1, word2: 0 },
-    }
+    })
 }
 
 // Function 16: start, count, byte count and the values.
 #[tactic(auto, unfolding(crate::specs::Request::write_many_of))]
-fn decode_write_many(body: &[u8]) -> Request
+fn decode_write_many(body: &[u8]) -> Result<Request, Code>
     ensures { result ≡ write_many_of body.now }
 {
     let n = body.len();
     if n < 9 {
-        return Request::Malformed;
+        return Err(Code::IllegalDataValue);
     }
     let start = words::word_at(body, 2);
     let count = words::word_at(body, 4);
-    if count < 1 {
-        return Request::Malformed;
-    }
-    if 123 < count {
-        return Request::Malformed;
+    if !(1..=123).contains(&count) {
+        return Err(Code::IllegalDataValue);
     }
     let size = body[6] as usize;
     if size != 2 * (count as usize) {
-        return Request::Malformed;
+        return Err(Code::IllegalDataValue);
     }
     if n != 7 + size {
-        return Request::Malformed;
+        return Err(Code::IllegalDataValue);
     }
     let word1 = words::word_at(body, 7);
-    if n < 11 {
-        return Request::Write {
-            start,
-            count,
-            value: Value::Words { word1, word2: 0 },
-        };
-    }
-    let word2 = words::word_at(body, 9);
-    Request::Write {
+    let word2 = if n < 11 { 0 } else { words::word_at(body, 9) };
+    Ok(Request::Write {
         start,
         count,
         value: Value::Words { word1, word2 },
-    }
+    })
 }
 
 // Function 22: register, and-mask, or-mask.
 #[tactic(auto, unfolding(crate::specs::Request::write_mask_of))]
-fn decode_write_mask(body: &[u8]) -> Request
+fn decode_write_mask(body: &[u8]) -> Result<Request, Code>
     ensures { result ≡ write_mask_of body.now }
 {
     if body.len() != 8 {
-        return Request::Malformed;
+        return Err(Code::IllegalDataValue);
     }
     let start = words::word_at(body, 2);
     let and_mask = words::word_at(body, 4);
     let or_mask = words::word_at(body, 6);
-    Request::Write {
+    Ok(Request::Write {
         start,
         count: 1,
         value: Value::Mask { and_mask, or_mask },
-    }
-}
-
-// 0, or the exception code of a request that the reader refuses.
-pub fn code_of(r: Request) -> u8
-    ensures { result ≡ code_of r }
-{
-    match r {
-        Request::Unsupported => codes::ILLEGAL_FUNCTION,
-        Request::Malformed => codes::ILLEGAL_DATA_VALUE,
-        Request::Read { start: _, count: _ } => 0,
-        Request::Write {
-            start: _,
-            count: _,
-            value: _,
-        } => 0,
-    }
+    })
 }

@@ -4,18 +4,12 @@
 #![tactic(auto)]
 
 ghost use Rattle.std.specs.Prelude.{◌≡◌};
+ghost use Rattle.modbus.specs.Request.{request_of};
 ghost use Rattle.plans.specs.Plans.{target_of, read_plan, write_plan, request_plan, plan_of};
 
-use fields::{Field, READ_ONLY, Span};
+use fields::{Access, Field};
 use modbus::{Header, Request, Value};
-use refusals::codes;
-
-// The field that a write goes to, or the code that refuses it. Its owner is 0 for the device, or the sensor's number.
-#[derive(Clone, Copy)]
-pub enum Target {
-    Unfit(u8),
-    Writable { owner: u16, field: Field },
-}
+use refusals::codes::Code;
 
 #[derive(Clone, Copy)]
 pub enum Plan {
@@ -26,7 +20,7 @@ pub enum Plan {
     // A read at address 0.
     BroadcastRead,
     // Refused by code 1, 3, 2, 0x80 or 0xC2.
-    Refused(u8),
+    Refused(Code),
     Reading {
         start: u16,
         count: u16,
@@ -41,60 +35,42 @@ pub enum Plan {
 
 // The field that is exactly these registers, if it can be written at all.
 #[tactic(auto, unfolding(crate::specs::Plans::target_of))]
-fn target_of(start: u16, count: u16) -> Target
+fn target_of(start: u16, count: u16) -> Result<Field, Code>
     ensures { result ≡ target_of start count }
 {
-    let span = lookup::span(start, count);
-    match span {
-        Span::Whole(field) => {
-            if field.access == READ_ONLY {
-                return Target::Unfit(codes::READ_ONLY);
-            }
-            Target::Writable {
-                owner: start / 100,
-                field,
-            }
-        }
-        Span::Mismatch => Target::Unfit(lookup::code_of(span)),
-        Span::Gap => Target::Unfit(lookup::code_of(span)),
+    let field = lookup::span(start, count)?.ok_or(Code::FieldMismatch)?;
+    if field.access == Access::ReadOnly {
+        return Err(Code::ReadOnly);
     }
+    Ok(field)
 }
 
 // A read may begin or end inside a field.
 #[tactic(auto, unfolding(crate::specs::Plans::read_plan))]
-fn plan_read(start: u16, count: u16) -> Plan
+fn plan_read(start: u16, count: u16) -> Result<Plan, Code>
     ensures { result ≡ read_plan start count }
 {
-    let span = lookup::span(start, count);
-    match span {
-        Span::Whole(_) => Plan::Reading { start, count },
-        Span::Mismatch => Plan::Reading { start, count },
-        Span::Gap => Plan::Refused(lookup::code_of(span)),
-    }
+    lookup::span(start, count)?;
+    Ok(Plan::Reading { start, count })
 }
 
-#[tactic(auto, unfolding(crate::specs::Plans::target_of))]
-fn plan_write(start: u16, count: u16, value: Value) -> Plan
-    ensures { result ≡ write_plan value (target_of start count) }
+#[tactic(auto, unfolding(crate::specs::Plans::write_plan))]
+fn plan_write(start: u16, count: u16, value: Value) -> Result<Plan, Code>
+    ensures { result ≡ write_plan start count value }
 {
-    match target_of(start, count) {
-        Target::Unfit(code) => Plan::Refused(code),
-        Target::Writable { owner, field } => Plan::Writing {
-            owner,
-            field,
-            value,
-        },
-    }
+    let field = target_of(start, count)?;
+    Ok(Plan::Writing {
+        owner: start / 100,
+        field,
+        value,
+    })
 }
 
 // A request, judged on the map.
-#[tactic(auto, unfolding(crate::specs::Plans::read_plan, crate::specs::Plans::target_of))]
-fn plan_request(request: Request) -> Plan
-    ensures { result ≡ request_plan request }
+fn plan_request(function: u8, body: &[u8]) -> Result<Plan, Code>
+    ensures { result ≡ request_plan (request_of function body.now) }
 {
-    match request {
-        Request::Unsupported => Plan::Refused(modbus::code_of(request)),
-        Request::Malformed => Plan::Refused(modbus::code_of(request)),
+    match modbus::decode_request(function, body)? {
         Request::Read { start, count } => plan_read(start, count),
         Request::Write {
             start,
@@ -116,5 +92,8 @@ pub fn plan_of(own: u8, header: Header, body: &[u8]) -> Plan
     if !broadcast & (header.address != own) {
         return Plan::Foreign;
     }
-    plan_request(modbus::decode_request(header.function, body))
+    match plan_request(header.function, body) {
+        Ok(plan) => plan,
+        Err(code) => Plan::Refused(code),
+    }
 }

@@ -13,7 +13,12 @@ use Rattle.journal.specs.Contents.{journal_of}
 use Rattle.journal.specs.Valid.{valid}
 use Rattle.columns.specs.Text.{characters}
 use Rattle.page.specs.Page.{page_of}
-use Rattle.page.specs.Print.{Printed, print_of}
+use Rattle.page.specs.Print.{Printed, refused, print_of}
+use Rattle.printing.specs.Steps.{left_by}
+use Rattle.std.specs.Prelude.{Option, Result, Ok, Err, IfNone, IfSome}
+use Rattle.std.specs.Result.{result_ok}
+use Rattle.refusals.specs.Numbers.{number_of}
+use Rattle.refusals.specs.declared.numbers.Refusal.{Refusal}
 use Rattle.page.proofs.Print.{print_invalid, print_done}
 use Rattle.printing.proofs.Left.{room}
 use Rattle.printing.proofs.Lines.{page_length}
@@ -47,19 +52,18 @@ print_fits : (w out : List ℕ) → 53212 ≤ length out → valid w ≡ true
     → print_of w out ≡ record { number = 0; length = length (page_of (journal_of w)); page = overlay (page_of (journal_of w)) out }
 print_fits w out h v = print_done w out v (omega (arith, page_most w v))
 
--- a number means that the words aren't valid, and nothing was written
-pub refused_left : (w out page : List ℕ) (n l : ℕ) → 53212 ≤ length out → ◌≡◌ {A = Printed} (record { number = n; length = l; page = page }) (print_of w out)
-    → (n ≡ 0 → ⊥) → (valid w ≡ false) × (page ≡ out)
-refused_left w out page n l h e z = go (valid w) refl
+-- a refusal means that the words aren't valid, and nothing was written: a page has a line at least
+refused_left : (w out page : List ℕ) (n : ℕ) → 53212 ≤ length out → refused n page ≡ print_of w out → (valid w ≡ false) × (page ≡ out)
+refused_left w out page n h e = go (valid w) refl
   where
     go : (v : Bool) → valid w ≡ v → (valid w ≡ false) × (page ≡ out)
-    go true v = absurd (z (ap (λ (p : Printed). p.number) (e ∙ print_fits w out h v)))
+    go true v = absurd (omega (arith, ap (λ (p : Printed). p.length) (e ∙ print_fits w out h v), page_length w))
     go false v = (v, ap (λ (p : Printed). p.page) (e ∙ print_invalid w out v))
 
--- number 0 means that the page was
-pub printed_left : (w out page : List ℕ) (n l : ℕ) → 53212 ≤ length out → ◌≡◌ {A = Printed} (record { number = n; length = l; page = page }) (print_of w out)
-    → n ≡ 0 → (valid w ≡ true) × (page ≡ overlay (page_of (journal_of w)) out) × (l ≡ length (page_of (journal_of w))) × (l ≤ 53212)
-printed_left w out page n l h e z = go (valid w) refl
+-- a length means that the page was
+printed_left : (w out page : List ℕ) (l : ℕ) → 53212 ≤ length out → ◌≡◌ {A = Printed} (record { number = 0; length = l; page = page }) (print_of w out)
+    → (valid w ≡ true) × (page ≡ overlay (page_of (journal_of w)) out) × (l ≡ length (page_of (journal_of w))) × (l ≤ 53212)
+printed_left w out page l h e = go (valid w) refl
   where
     go : (v : Bool) → valid w ≡ v → (valid w ≡ true) × (page ≡ overlay (page_of (journal_of w)) out) × (l ≡ length (page_of (journal_of w))) × (l ≤ 53212)
     go true v =
@@ -70,23 +74,24 @@ printed_left w out page n l h e z = go (valid w) refl
 
 -- ---- what is left in the buffer, and its length
 
-pub unsound-left : (b out left : List ℕ) (r : ℕ) → printout_of b ≡ unsound → (left ≡ overlay unsound out) × (r ≡ 8)
-    → (left ≡ overlay (printout_of b) out) × ((r ≡ length (printout_of b)) × (r ≤ 53212))
+pub unsound_length : (b : List ℕ) → printout_of b ≡ unsound → length (printout_of b) ≡ 8
 unfolding characters
-unsound-left b out left r e p = rw e (p.0, (p.1, omega (arith, p.1)))
+unsound_length b e = rw e
 
-pub file_refused : (b w out page left : List ℕ) (n l r : ℕ) → w ≡ words_of b → length b % 2 ≡ 0 → length b ≤ 48128 → 53212 ≤ length out
-    → ◌≡◌ {A = Printed} (record { number = n; length = l; page = page }) (print_of w out) → (n ≡ 0 → ⊥) → (left ≡ overlay unsound page) × (r ≡ 8)
-    → (left ≡ overlay (printout_of b) out) × ((r ≡ length (printout_of b)) × (r ≤ 53212))
-file_refused b w out page left n l r i e m h p z q =
-    let k = refused_left w out page n l h p z in
-    let u : printout_of b ≡ unsound = even_file b e m ∙ rw (← i, k.0) refl in
-    unsound-left b out left r u (rw (← k.1) q.0, q.1)
+-- what is left by the print of a file's words: where it is refused, the buffer
+pub file_refused : (b w out page : List ℕ) (r : Result ℕ Refusal) (o : Option ℕ) → w ≡ words_of b → length b % 2 ≡ 0 → length b ≤ 48128 → 53212 ≤ length out
+    → left_by r page ≡ print_of w out → o ≡ result_ok r → IfNone o ((printout_of b ≡ unsound) × (page ≡ out))
+file_refused b w out page (Ok n) o i e m h p q = rw q tt
+file_refused b w out page (Err refusal) o i e m h p q =
+    let k = refused_left w out page (number_of refusal) h p in
+    rw q (even_file b e m ∙ rw (← i, k.0) refl, k.1)
 
-pub file_printed : (b w out page : List ℕ) (n l : ℕ) → w ≡ words_of b → length b % 2 ≡ 0 → length b ≤ 48128 → 53212 ≤ length out
-    → ◌≡◌ {A = Printed} (record { number = n; length = l; page = page }) (print_of w out) → n ≡ 0
-    → (page ≡ overlay (printout_of b) out) × ((l ≡ length (printout_of b)) × (l ≤ 53212))
-file_printed b w out page n l i e m h p z =
-    let k = printed_left w out page n l h p z in
+-- and where it isn't, the page
+pub file_printed : (b w out page : List ℕ) (r : Result ℕ Refusal) (o : Option ℕ) → w ≡ words_of b → length b % 2 ≡ 0 → length b ≤ 48128 → 53212 ≤ length out
+    → left_by r page ≡ print_of w out → o ≡ result_ok r
+    → IfSome o (λ n. (page ≡ overlay (printout_of b) out) × (n ≡ length (printout_of b)) × (n ≤ 53212))
+file_printed b w out page (Err refusal) o i e m h p q = rw q tt
+file_printed b w out page (Ok n) o i e m h p q =
+    let k = printed_left w out page n h p in
     let u : printout_of b ≡ page_of (journal_of w) = even_file b e m ∙ rw (← i, k.0) refl in
-    rw u (k.1, (k.2, k.3))
+    rw (q, u) (k.1, k.2, k.3)

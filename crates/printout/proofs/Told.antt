@@ -10,7 +10,7 @@ use lib.ListN.{length, get_or}
 use Rattle.floats.proofs.Bools.{both}
 use Rattle.words.specs.Bytes.{Bytes, words_of}
 use Rattle.words.specs.Digits.{hex_digit}
-use Rattle.columns.specs.Columns.{last, last_or_blank, cells, number, spaced}
+use Rattle.columns.specs.Columns.{last, last_or, cells, number, spaced}
 use Rattle.columns.specs.Text.{characters}
 use Rattle.lines.specs.Lines.{columns_of, line_of, lines_of}
 use Rattle.journal.specs.Contents.{journal_of}
@@ -23,7 +23,7 @@ use Rattle.printout.specs.Printout.{printable, unsound, printout_of, UnsoundAlon
 
 -- a page begins with a blank
 page_begins : (j : Journal) → get_or (page_of j) 0 0 ≡ 32
-unfolding page_of lines_of line_of columns_of spaced number cells last_or_blank last hex_digit
+unfolding page_of lines_of line_of columns_of spaced number cells last_or last hex_digit
 page_begins j = refl
 
 pub unsound_alone : UnsoundAlone

@@ -16,9 +16,9 @@ fn put_words(reply: &mut [u8], words: &[u16])
     requires { 3 + 2 * length words.now ≤ length reply.old }
     ensures { reply.new ≡ sets reply.old 3 (bytes_of words.now) }
 {
-    for i in 0..words.len() {
-        reply[3 + 2 * i] = words[i].high();
-        reply[4 + 2 * i] = words[i].low();
+    for (i, word) in words.iter().enumerate() {
+        reply[3 + 2 * i] = word.high();
+        reply[4 + 2 * i] = word.low();
     }
 }
 
@@ -36,29 +36,16 @@ pub fn put_read(reply: &mut [u8], address: u8, words: &[u16]) -> usize
     3 + size
 }
 
-// Bytes from the start on.
-fn put_bytes(reply: &mut [u8], bytes: &[u8])
-    requires { length bytes.now ≤ length reply.old }
-    ensures { reply.new ≡ sets reply.old 0 bytes.now }
-{
-    for i in 0..bytes.len() {
-        reply[i] = bytes[i];
-    }
-}
-
 // To a write: the request, of function 16 its first six bytes (address, function, start, count).
-#[tactic(auto, using(crate::proofs::Stores::from_start), unfolding(crate::specs::Reply::written_body))]
+#[tactic(auto, using(crate::proofs::Stores::from_start), unfolding(crate::specs::Reply::written_body, words::specs::Overlay::overlay))]
 pub fn put_written(reply: &mut [u8], function: u8, body: &[u8]) -> usize
     requires { (256 ≤ length reply.old) × (6 ≤ length body.now) × (length body.now ≤ 254) }
     ensures value { result ≡ length (written_body function body.now) }
     ensures reply_after { reply.new ≡ overlay (written_body function body.now) reply.old }
 {
-    if function == 16 {
-        put_bytes(reply, &body[..6]);
-        return 6;
-    }
-    put_bytes(reply, body);
-    body.len()
+    let echoed = if function == 16 { &body[..6] } else { body };
+    reply[..echoed.len()].copy_from_slice(echoed);
+    echoed.len()
 }
 
 // A function's number in an exception reply.

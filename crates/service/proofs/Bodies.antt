@@ -6,6 +6,9 @@ use native.Mathlib.Omega.{arith}
 use lib.Dec.{eqb, lit≤}
 use lib.ListN.{length, take}
 use lib.Seq.{length-take-le}
+use Rattle.std.specs.Prelude.{Option, Some, None}
+use Rattle.refusals.specs.Codes.{byte_of}
+use Rattle.refusals.specs.declared.codes.Code.{Code}
 use Rattle.words.specs.Bytes.{bytes_of}
 use Rattle.words.proofs.Bytes.{bytes_length}
 use Rattle.floats.proofs.Bools.{choose}
@@ -33,11 +36,10 @@ module _ (h : Header) (body : List ℕ) where
       (λ e. record { least = λ n. omega (arith, length-take-le 6 body m); most = omega (arith, length-take-le 6 body m) })
       (λ e. record { least = λ n. omega arith; most = l })
 
-  pub write_sized : (code : ℕ) → length body ≤ 254 → 6 ≤ length body → Sized (write_body h body code)
+  pub write_sized : (code : Option Code) → length body ≤ 254 → 6 ≤ length body → Sized (write_body h body code)
   unfolding write_body
-  write_sized code l m =
-      choose Sized (eqb code 0) (sent h (written_body h.function body)) (refusal_body h code) (λ e. sent_sized (written_body h.function body) (written_sized l m))
-      (λ e. refusal_sized code)
+  write_sized None l m = sent_sized (written_body h.function body) (written_sized l m)
+  write_sized (Some code) l m = refusal_sized (byte_of code)
 
 pub read_sized : (address : ℕ) (words : List ℕ) → length words ≤ 125 → Sized (read_body address words)
 unfolding read_body

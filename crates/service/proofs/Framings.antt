@@ -6,6 +6,7 @@ use Prim.Native.Nat.{ℕ, ◌≤◌}
 use lib.Dec.{ltb}
 use lib.ListN.{length}
 use borrow.Author.Tests.{le-ltb}
+use Rattle.refusals.specs.Codes.{byte_of}
 use Rattle.words.specs.Bytes.{Bytes}
 use Rattle.words.proofs.Stores.{overlay-start}
 use Rattle.framing.specs.Framing.{Carried, carried_in, body_of, room_in}
@@ -35,7 +36,7 @@ unfolding carried_out reading_body
 planned_sized d h body w a Bad f l = none_sized
 planned_sized d h body w a Foreign f l = none_sized
 planned_sized d h body w a BroadcastRead f l = none_sized
-planned_sized d h body w a (Refused code) f l = refusal_sized h body code
+planned_sized d h body w a (Refused code) f l = refusal_sized h body (byte_of code)
 planned_sized d h body w a (Reading start count) f l =
     let r = register_at d (device_in d w a) in
     read_sized d.address (shown_from r start count) (rw (shown_length r start count) f.most)

@@ -10,7 +10,9 @@ use lib.Dec.{ltb}
 use lib.Ieee.{Float}
 use lib.ListN.{length, get_or, drop}
 use lib.Seq.{drop-append_seam, set-get_or}
-use borrow.Author.Tests.{ne_eqb}
+use Rattle.std.specs.Prelude.{Option, Some, None}
+use Rattle.refusals.specs.Codes.{byte_if}
+use Rattle.refusals.specs.declared.codes.Code.{Code}
 use Rattle.floats.proofs.Bools.{choose}
 use Rattle.words.specs.Overlay.{overlay}
 use Rattle.framing.specs.Framing.{Carried, carried_in, body_of, room_in}
@@ -48,7 +50,7 @@ use Rattle.service.specs.Agrees.{openings, agrees}
 use Rattle.service.specs.Calls.{made, rejected, fresh_of, Begun, begun, begin_of, powered_by, power_up_of, raws_finite, measure_of, audit_of}
 use Rattle.replies.specs.Reply.{reply_of}
 use Rattle.service.specs.Reads.{device_in}
-use Rattle.service.specs.Frame.{first_word, second_word, answer, refusal_body, write_body, write_at, is_update, sonde_after, carried_out, planned, code_by, plan_for, answer_of, answer_to, Outcome, outcome, refused_by, left, frame_of}
+use Rattle.service.specs.Frame.{first_word, second_word, answer, refusal_body, write_body, write_at, is_update, sonde_after, carried_out, planned, code_by, plan_for, answer_of, answer_to, Outcome, outcome, refused_by, left, frame_of, event_of}
 use Rattle.service.specs.Refusals.{refused_leaves}
 use Rattle.service.specs.declared.Arrival.{Arrival}
 use Rattle.service.specs.declared.SondeMade.{SondeMade}
@@ -163,10 +165,10 @@ unfolding with_setup with_sensor setup_at sensor_at sensor_with_setup
 with_setup_same d s = ap (λ (l : List Sensor). sonde d.address d.technician l d.counters) (set-get_or d.sensors (s - 1) no_sensor)
 
 -- the setup that a refused write leaves
-write_leaves : (d : Sonde) (w : List ℕ) (a : Arrival) (o : ℕ) (f : Field) (v : Value) → (code_of (write_at d w a o f v) ≡ 0 → ⊥)
+write_leaves : (d : Sonde) (w : List ℕ) (a : Arrival) (o : ℕ) (f : Field) (v : Value) → (code_of (write_at d w a o f v) ≡ None → ⊥)
     → setup_after (setup_at d o) (write_at d w a o f v) ≡ cond (is_update o (sensor_at d o) f v) (refused_update o (setup_at d o)) (setup_at d o)
 unfolding setup_at
-write_leaves d w a zero f v n = absurd (n (rw (device_write (device_in d w a) (sensor_at d 0) f v)))
+write_leaves d w a zero f v n = absurd (n (rw (device_write (device_in d w a) (sensor_at d 0) f v) refl))
 write_leaves d w a (suc s) f v n =
     let x = sensor_at d (suc s) in
     let q = sensor_write (device_in d w a) x f v (suc s) (omega arith) in
@@ -174,25 +176,36 @@ write_leaves d w a (suc s) f v n =
     (refused_leaves_holds (suc s) x.setup f (first_word (sensor_register (suc s) x f.offset) v) (second_word v) (context_of (device_in d w a)) (rw q at n))
 
 -- the technician's number stays
-number_leaves : (d : Sonde) (o : ℕ) (x : Written) → (code_of x ≡ 0 → ⊥) → sonde_after d o x ≡ with_setup d o (setup_after (setup_at d o) x)
+number_leaves : (d : Sonde) (o : ℕ) (x : Written) → (code_of x ≡ None → ⊥) → sonde_after d o x ≡ with_setup d o (setup_after (setup_at d o) x)
 unfolding sonde_after with_technician with_setup with_sensor
 number_leaves d o x n = ap (with_technician (with_setup d o (setup_after (setup_at d o) x))) (refused_technician d.technician x n)
 
+-- a code that refuses is answered and counted as one
+refused_event : (code : Option Code) → (code ≡ None → ⊥) → event_of code ≡ Exception
+refused_event None n = absurd (n refl)
+refused_event (Some code) n = refl
+
+refused_body : (h : Header) (body : List ℕ) (code : Option Code) → (code ≡ None → ⊥) → write_body h body code ≡ refusal_body h (byte_if code)
+unfolding write_body
+refused_body h body None n = absurd (n refl)
+refused_body h body (Some code) n = refl
+
 -- the write of a field that is refused: a sensor's, since the device's never is
-write_refused : (d : Sonde) (h : Header) (body w : List ℕ) (a : Arrival) (o : ℕ) (f : Field) (v : Value) → (code_of (write_at d w a o f v) ≡ 0 → ⊥)
-    → carried_out d h body w o (write_at d w a o f v) ≡ answer Exception (refusal_body h (code_of (write_at d w a o f v))) (refused_leaves d (Writing o f v)) w
-unfolding carried_out write_body
+write_refused : (d : Sonde) (h : Header) (body w : List ℕ) (a : Arrival) (o : ℕ) (f : Field) (v : Value) → (code_of (write_at d w a o f v) ≡ None → ⊥)
+    → carried_out d h body w o (write_at d w a o f v) ≡ answer Exception (refusal_body h (byte_if (code_of (write_at d w a o f v)))) (refused_leaves d (Writing o f v)) w
+unfolding carried_out
 write_refused d h body w a o f v n =
     rw (
-      ne_eqb (code_of (write_at d w a o f v)) 0 n,
+      refused_event (code_of (write_at d w a o f v)) n,
+      refused_body h body (code_of (write_at d w a o f v)) n,
       refused_journals (write_at d w a o f v) n,
       number_leaves d o (write_at d w a o f v) n,
       write_leaves d w a o f v n,
     )
     (go (is_update o (sensor_at d o) f v))
   where
-    go : (u : Bool) → answer Exception (refusal_body h (code_of (write_at d w a o f v))) (with_setup d o (cond u (refused_update o (setup_at d o)) (setup_at d o))) w
-        ≡ answer Exception (refusal_body h (code_of (write_at d w a o f v))) (cond u (with_setup d o (refused_update o (setup_at d o))) d) w
+    go : (u : Bool) → answer Exception (refusal_body h (byte_if (code_of (write_at d w a o f v)))) (with_setup d o (cond u (refused_update o (setup_at d o)) (setup_at d o))) w
+        ≡ answer Exception (refusal_body h (byte_if (code_of (write_at d w a o f v)))) (cond u (with_setup d o (refused_update o (setup_at d o))) d) w
     go true = refl
     go false = rw (with_setup_same d o)
 
@@ -205,7 +218,7 @@ code_keeps d h body w a Foreign n = absurd (n refl)
 code_keeps d h body w a BroadcastRead n = absurd (n refl)
 code_keeps d h body w a (Refused code) n = refl
 code_keeps d h body w a (Reading start count) n = absurd (n refl)
-code_keeps d h body w a (Writing s f v) n = write_refused d h body w a s f v n
+code_keeps d h body w a (Writing s f v) n = write_refused d h body w a s f v (λ e. n (ap byte_if e))
 
 -- ---- a frame
 
@@ -230,7 +243,7 @@ module _ (w : List ℕ) (v : valid w ≡ true) (a : Arrival) where
           (record { whole = λ q. absurd (omega (arith, q, u)); free = rw u (append_keeps w e k (valid_last w v e.sensor k)) })
       go false h = rw (append_none w e 27 h) (same w)
 
-  write_volume : {s : ℕ} {x t : Setup} {c : Context} {code : ℕ} {es : List Entry} → Journalled s x t c code es → Keeps w (appends_of 27 w es)
+  write_volume : {s : ℕ} {x t : Setup} {c : Context} {code : Option Code} {es : List Entry} → Journalled s x t c code es → Keeps w (appends_of 27 w es)
   write_volume (nothing h) = same w
   write_volume (entry e z r i q g f) = append_volume e
 

@@ -18,8 +18,9 @@ use Rattle.floats.proofs.Bools.{both, no, choose}
 use Rattle.coefficients.specs.Coefficients.{all_finite}
 use Rattle.coefficients.specs.declared.Coefficients.{Coefficients}
 use Rattle.methods.specs.Methods.{judged_of}
-use Rattle.methods.specs.declared.Verdict.{Verdict}
-use Rattle.methods.specs.declared.Verdict.TheVariants.{Accepted, OutsideLimits, NotFinite, Undefined}
+use Rattle.std.specs.Prelude.{Result, Ok, Err}
+use Rattle.methods.specs.declared.Rejection.{Rejection}
+use Rattle.methods.specs.declared.Rejection.TheVariants.{OutsideLimits, NotFinite, Undefined}
 use Rattle.methods.proofs.Candidates.{outside_limits_holds, fails}
 use Rattle.fields.specs.declared.Field.{Field}
 use Rattle.journal.specs.Journal.{IsSensor}
@@ -222,14 +223,14 @@ module _ (d : Sonde) (frame : List ℕ) (a : Arrival) (none : (s : ℕ) (c : Coe
   unfolding refused_update
   update_keeps s f v p u = choose (λ (x : Setup). x ≡ setup_at d s) (setup_at d s).procedure.calibrating _ _ (λ m. judged m (judged_of s (method_set (setup_at d s))) refl) (λ m. refl)
     where
-      judged : (setup_at d s).procedure.calibrating ≡ true → (y : Verdict) → judged_of s (method_set (setup_at d s)) ≡ y → tried_by (setup_at d s) y ≡ setup_at d s
-      judged m (Accepted c) j = refl
-      judged m (OutsideLimits c) j =
+      judged : (setup_at d s).procedure.calibrating ≡ true → (y : Result Coefficients Rejection) → judged_of s (method_set (setup_at d s)) ≡ y → tried_by (setup_at d s) y ≡ setup_at d s
+      judged m (Ok c) j = refl
+      judged m (Err (OutsideLimits c)) j =
           let o = outside_limits_holds s (method_set (setup_at d s)) c j in
           absurd
           (none s c (record { field = f; value = v; asks = p; is_update_holds = u; mode_on_holds = m; candidate = o.made; all_finite_holds = o.all_finite_holds; outside = o.limits }))
-      judged m NotFinite j = refl
-      judged m Undefined j = refl
+      judged m (Err NotFinite) j = refl
+      judged m (Err (Undefined cause)) j = refl
 
   plan_leaves : (p : Plan) → plan_for d.address (carried_in a.ascii frame) ≡ p → refused_leaves d p ≡ d
   plan_leaves Bad e = refl

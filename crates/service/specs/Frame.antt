@@ -1,7 +1,9 @@
 -- What a frame does: number, sonde, reply and volume as one function of what goes in. Document 01, "Frames", in its order: numbers 3 and 4;
 -- bad; another's; a read at address 0; codes 1, 3, 2, 0x80 and 0xC2, which the plan has; then the field's write. Document 02, wish 1: a frame has
 -- one of two framings, and what it carries is all that is judged. Assumes nothing.
-use Rattle.std.specs.Prelude.{Bool, ◌&&◌, not, cond, List, [], ℕ, eqb, ltb, length}
+use Rattle.std.specs.Prelude.{Bool, ◌&&◌, not, cond, List, [], Option, Some, None, ℕ, eqb, ltb, length}
+use Rattle.refusals.specs.Codes.{byte_of, byte_if}
+use Rattle.refusals.specs.declared.codes.Code.{Code}
 use Rattle.words.specs.Mask.{masked_of}
 use Rattle.words.specs.Overlay.{overlay}
 use Rattle.framing.specs.Framing.{Carried, carried_in, body_of, room_in}
@@ -64,16 +66,18 @@ answer event body d w = record { event = event; body = body; sonde = d; volume =
 unfoldable pub sent : Header → List ℕ → List ℕ
 sent h body = cond (eqb h.address 0) [] body
 
--- the reply to what is refused by a code, if one is sent
+-- the reply to what is refused by a code's byte, if one is sent
 abbrev pub refusal_body : Header → ℕ → List ℕ
 refusal_body h code = sent h (exception_body h.address h.function code)
 
--- the answer to a write by its code, 0 for none: "Others count good, and a refused one also as exception"
-abbrev pub event_of : ℕ → Event
-event_of code = cond (eqb code 0) Good Exception
+-- the answer to a write by its code, if one refuses it: "Others count good, and a refused one also as exception"
+abbrev pub event_of : Option Code → Event
+event_of None = Good
+event_of (Some code) = Exception
 
-unfoldable pub write_body : Header → List ℕ → ℕ → List ℕ
-write_body h body code = cond (eqb code 0) (sent h (written_body h.function body)) (refusal_body h code)
+unfoldable pub write_body : Header → List ℕ → Option Code → List ℕ
+write_body h body None = sent h (written_body h.function body)
+write_body h body (Some code) = refusal_body h (byte_of code)
 
 -- ---- writes
 
@@ -104,18 +108,18 @@ abbrev pub planned : Sonde → Header → List ℕ → List ℕ → Arrival → 
 planned d h body w a Bad = answer CountedBad [] d w
 planned d h body w a Foreign = answer Uncounted [] d w
 planned d h body w a BroadcastRead = answer Good [] d w
-planned d h body w a (Refused code) = answer Exception (refusal_body h code) d w
+planned d h body w a (Refused code) = answer Exception (refusal_body h (byte_of code)) d w
 planned d h body w a (Reading start count) = answer Good (reading_body d w a start count) d w
 planned d h body w a (Writing o f v) = carried_out d h body w o (write_at d w a o f v)
 
--- the code that refuses what a frame asks; 0 for none
+-- the byte of the code that refuses what a frame asks; 0 for none
 abbrev pub code_by : Sonde → List ℕ → Arrival → Plan → ℕ
 code_by d w a Bad = 0
 code_by d w a Foreign = 0
 code_by d w a BroadcastRead = 0
-code_by d w a (Refused code) = code
+code_by d w a (Refused code) = byte_of code
 code_by d w a (Reading start count) = 0
-code_by d w a (Writing o f v) = code_of (write_at d w a o f v)
+code_by d w a (Writing o f v) = byte_if (code_of (write_at d w a o f v))
 
 -- the entries that what a frame asks for appends: one by an update that is accepted, else none
 abbrev pub entries_by : Sonde → List ℕ → Arrival → Plan → List Entry

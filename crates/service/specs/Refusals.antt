@@ -1,6 +1,6 @@
 -- What a refusal by a code leaves. Demand 1: "a code changes only the message counters and writes its exception reply (no reply at address 0)", with
 -- the one exception of document 02, wish 2: "an update that is refused for its limits alone puts the candidate in the trial figures". Assumes nothing.
-use Rattle.std.specs.Prelude.{◌≡◌, true, false, cond, List, [], ◌∷◌, ℕ, ◌+◌, ◌*◌, ◌≤◌, length, take, drop}
+use Rattle.std.specs.Prelude.{◌≡◌, true, false, cond, Ok, List, [], ◌∷◌, ℕ, ◌+◌, ◌*◌, ◌≤◌, length, take, drop}
 use Rattle.floats.specs.Floats.{high_word, low_word}
 use Rattle.framing.specs.Framing.{carried_in, body_of, room_in}
 use Rattle.modbus.specs.Request.{header_of}
@@ -9,7 +9,6 @@ use Rattle.replies.specs.Reply.{read_body, reply_of}
 use Rattle.coefficients.specs.Coefficients.{all_finite, in_limits}
 use Rattle.coefficients.specs.declared.Coefficients.{Coefficients}
 use Rattle.methods.specs.Methods.{candidate_of}
-use Rattle.methods.specs.declared.Candidate.TheVariants.{Made}
 use Rattle.journal.specs.Journal.{IsSensor}
 use Rattle.journal.specs.Replay.{replay_of}
 use Rattle.fields.specs.declared.Field.{Field}
@@ -49,7 +48,7 @@ pub record FailedUpdate (d : Sonde) (frame : List ℕ) (a : Arrival) (s : ℕ) (
   pub asks : plan_for d.address (carried_in a.ascii frame) ≡ Writing s field value
   pub is_update_holds : is_update s (sensor_at d s) field value ≡ true
   pub mode_on_holds : (setup_at d s).procedure.calibrating ≡ true
-  pub candidate : candidate_of (method_set (setup_at d s)) ≡ Made c
+  pub candidate : candidate_of (method_set (setup_at d s)) ≡ Ok c
   pub all_finite_holds : all_finite c ≡ true
   pub outside : in_limits s c ≡ false
 

@@ -13,7 +13,6 @@ ghost use Rattle.service.specs.Frame.{arrival, outcome, frame_of};
 ghost use Rattle.service.specs.Framings.{AnswersBytes};
 
 use entries::Entry;
-use execution::Change;
 use page::SondePrint;
 use recovery::SondeSalvage;
 use refusals::numbers;
@@ -59,10 +58,9 @@ pub fn sonde_frame(
 {
     let agreed = sonde.is_valid()
         & consistency::journal_agrees(&consistency::opening(&sonde), volume);
-    let number = admission::number_of(ascii, reply.len(), agreed);
-    if number != numbers::DONE {
+    if let Err(refusal) = admission::admit(ascii, reply.len(), agreed) {
         return SondeFrame {
-            number,
+            number: u8::from(refusal),
             length: 0,
             sonde,
         };
@@ -91,17 +89,13 @@ pub fn sonde_frame(
     sonde.counters = after;
     sonde.technician = served.technician;
     let length = served.length;
-    let change = served.change;
-    match change {
-        Change::Nothing => {}
-        Change::Setup(setup) => {
-            let named = sonde.sensors[i];
-            let t = named.with_setup(setup);
-            sonde.sensors[i] = t;
-        }
+    if let Some(setup) = served.change {
+        let named = sonde.sensors[i];
+        let t = named.with_setup(setup);
+        sonde.sensors[i] = t;
     }
     SondeFrame {
-        number,
+        number: numbers::DONE,
         length,
         sonde,
     }

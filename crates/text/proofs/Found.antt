@@ -6,33 +6,12 @@ use Prim.Native.Nat.{ℕ, suc, ◌+◌, ◌≤◌, ◌<◌}
 use native.Mathlib.Nat.{add-zero}
 use native.Mathlib.Numerals.{add-one}
 use native.Mathlib.Omega.{arith}
-use borrow.Author.Tests.{eq-eqb, ne_eqb}
 use lib.Dec.{eqb}
 use lib.ListN.{length, get_or, drop, drop_of_length-le}
 use lib.Seq.{drop-cons, get_or-drop}
-use Rattle.text.specs.Text.{character_at, before, find_of, before_mark, part_end_of}
+use Rattle.text.specs.Text.{character_at, before_mark, part_end_of}
 
 module _ (text : List ℕ) (at : ℕ) where
-  -- past the end nothing is found
-  pub find_end : (c : ℕ) → length text ≤ at → find_of text at c ≡ at
-  unfolding find_of before
-  find_end c h = rw (drop_of_length-le text h, add-zero)
-
-  pub find_here : (c : ℕ) → at < length text → eqb (get_or text at 0) c ≡ true → find_of text at c ≡ at
-  unfolding find_of before
-  find_here c h e = rw (drop-cons text at 0 h, e, add-zero)
-
-  pub find_on : (c : ℕ) → at < length text → eqb (get_or text at 0) c ≡ false → find_of text at c ≡ find_of text (at + 1) c
-  unfolding find_of before
-  find_on c h e = rw (drop-cons text at 0 h, e, add-one at) (omega arith)
-
-  -- the same two with the equation in place of its test
-  pub find_equal : (c : ℕ) → at < length text → get_or text at 0 ≡ c → find_of text at c ≡ at
-  find_equal c h e = find_here c h (eq-eqb _ _ e)
-
-  pub find_other : (c : ℕ) → at < length text → ¬ (get_or text at 0 ≡ c) → find_of text at c ≡ find_of text (at + 1) c
-  find_other c h e = find_on c h (ne_eqb _ _ e)
-
   -- the character behind a place
   behind : get_or (drop (suc at) text) 0 0 ≡ character_at text (at + 1)
   unfolding character_at

@@ -1,4 +1,3 @@
 -- What the proofs of `text` share. Assumes nothing.
 pub mod Found
 pub mod Decoded
-pub mod Ranges

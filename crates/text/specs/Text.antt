@@ -1,6 +1,7 @@
 -- Text as a list of characters, each by its number in ASCII. Document 01: "a program compares the rest and the standard's CRC vectors with a second
 -- implementation"; these are the lines that it reads. Assumes nothing.
 use Rattle.std.specs.Prelude.{Bool, cond, ◌&&◌, ◌||◌, List, [], ◌∷◌, ℕ, suc, ◌+◌, ◌≤◌, ◌≡◌, eqb, get_or, length, take, drop}
+use Rattle.std.specs.List.{position_or_len}
 
 -- so many characters stand at the start of a text, and its first so many are so many
 abbrev pub IsPrefixLen : ℕ → List ℕ → Type 0
@@ -10,14 +11,9 @@ IsPrefixLen n xs = (n ≤ length xs) × (n ≡ length (take n xs))
 unfoldable pub character_at : List ℕ → ℕ → ℕ
 character_at line at = get_or line at 0
 
--- how many characters stand before the first c, or before the end
-unfoldable pub before : ℕ → List ℕ → ℕ
-before c [] = 0
-before c (x ∷ xs) = cond (eqb x c) 0 (suc (before c xs))
-
 -- where c first stands from a place on, or the end
 unfoldable pub find_of : List ℕ → ℕ → ℕ → ℕ
-find_of text at c = at + before c (drop at text)
+find_of text at c = at + position_or_len (λ x. eqb x c) (drop at text)
 
 -- how many characters stand before the first line feed (10) with the mark behind it, or before the end
 unfoldable pub before_mark : ℕ → List ℕ → ℕ

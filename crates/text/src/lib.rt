@@ -4,7 +4,8 @@
 
 pub mod tally; // comparisons, counted
 
-ghost use Rattle.std.specs.Prelude.{◌≡◌, ◌+◌, ◌-◌, ◌≤◌, ◌<◌, length, take, drop, IfOk};
+ghost use Rattle.std.specs.Prelude.{◌≡◌, ◌==◌, ◌+◌, ◌-◌, ◌≤◌, ◌<◌, length, take, drop, IfOk, IfSome};
+ghost use Rattle.std.specs.List.{position_or_len};
 ghost use Rattle.std.specs.Io.KnownBytes.{Consumes, IsAtEnd};
 ghost use Rattle.text.specs.Text.{IsPrefixLen, character_at, find_of, part_end_of, is_passed_over};
 ghost use Rattle.text.specs.Hex.{digit_of, pair_of, past_space, decoded_of};
@@ -12,21 +13,25 @@ ghost use Rattle.text.specs.Hex.{digit_of, pair_of, past_space, decoded_of};
 use std::io;
 use std::io::Read;
 
+// How many characters stand before the first that is `c`, or before the end.
+fn before(text: &[u8], c: u8) -> usize
+    ensures value { result ≡ position_or_len (λ x. x == c) text.now }
+    ensures upper_bound { result ≤ length text.now }
+{
+    text.iter().take_while(|x| **x != c).count()
+}
+
 // Where a character first stands from a place on, or the end of the text.
-#[tactic(auto, using(crate::proofs::Found::find_end, crate::proofs::Found::find_equal, crate::proofs::Found::find_other))]
+#[tactic(auto, unfolding(crate::specs::Text::find_of))]
 pub fn find(text: &[u8], at: usize, c: u8) -> usize
     ensures value { result ≡ find_of text.now at c }
     ensures lower_bound { at ≤ result }
     ensures upper_bound { result ≤ at + (length text.now - at) }
 {
-    let mut end = at;
-    while end < text.len() {
-        if text[end] == c {
-            return end;
-        }
-        end += 1;
+    match text.get(at..) {
+        Some(rest) => at + before(rest, c),
+        None => at,
     }
-    end
 }
 
 // Where the part that a place is in ends: at the line feed before a line that begins with `mark`, or at the end of the text.
@@ -36,14 +41,12 @@ pub fn part_end(text: &[u8], at: usize, mark: u8) -> usize
     ensures lower_bound { at ≤ result }
     ensures upper_bound { result ≤ at + (length text.now - at) }
 {
-    let mut end = at;
-    while end < text.len() {
+    for end in at..text.len() {
         if (text[end] == b'\n') & (character(text, end + 1) == mark) {
             return end;
         }
-        end += 1;
     }
-    end
+    at.max(text.len())
 }
 
 // The character at a place of a line, and 0 past its end.
@@ -51,7 +54,7 @@ pub fn part_end(text: &[u8], at: usize, mark: u8) -> usize
 pub fn character(line: &[u8], at: usize) -> u8
     ensures { result ≡ character_at line.now at }
 {
-    if at < line.len() { line[at] } else { 0 }
+    line.get(at).copied().unwrap_or(0)
 }
 
 // Whether a line has nothing to play or compare: it is empty, or begins with `#`.
@@ -63,39 +66,26 @@ pub fn is_passed_over(line: &[u8]) -> bool
     (initial == 0) | (initial == b'#')
 }
 
-// The value of a hexadecimal digit, and 16 for any other character.
+// The value of a hexadecimal digit.
 #[tactic(auto, unfolding(crate::specs::Hex::digit_of, crate::specs::Hex::is_between))]
-fn digit(c: u8) -> u8
+fn digit(c: u8) -> Option<u8>
     ensures value { result ≡ digit_of c }
-    ensures upper_bound { result ≤ 16 }
+    ensures upper_bound { IfSome result (λ d. d ≤ 15) }
 {
-    if (b'0' <= c) & (c <= b'9') {
-        return c - b'0';
+    match c {
+        b'0'..=b'9' => Some(c - b'0'),
+        b'A'..=b'F' => Some(c - b'A' + 10),
+        b'a'..=b'f' => Some(c - b'a' + 10),
+        _ => None,
     }
-    if (b'A' <= c) & (c <= b'F') {
-        return c - b'A' + 10;
-    }
-    if (b'a' <= c) & (c <= b'f') {
-        return c - b'a' + 10;
-    }
-    16
 }
 
-// The byte that two digits spell, and 256 where they are not two digits.
+// The byte that two digits spell.
 #[tactic(auto, unfolding(crate::specs::Hex::pair_of))]
-fn pair(high: u8, low: u8) -> u16
-    ensures value { result ≡ pair_of high low }
-    ensures upper_bound { result ≤ 256 }
+fn pair(high: u8, low: u8) -> Option<u8>
+    ensures { result ≡ pair_of high low }
 {
-    let h = digit(high);
-    let l = digit(low);
-    if h > 15 {
-        return 256;
-    }
-    if l > 15 {
-        return 256;
-    }
-    (h as u16) * 16 + (l as u16)
+    Some(digit(high)? * 16 + digit(low)?)
 }
 
 // A place of a line, or the next where a space stands there.
@@ -111,26 +101,23 @@ fn past_space(line: &[u8], at: usize) -> usize
 }
 
 // Puts the bytes that a line spells at its start, each in two digits with or without a space in front, at the start of `out`, as many as it
-// holds, and gives how many they are.
+// holds, and gives how many they are, as `Read::read` does: a slice of `out` as the result would leave nothing to say of the rest of it.
 #[tactic(auto, unfolding(crate::specs::Hex::decoded_of))]
 pub fn decode(line: &[u8], out: &mut [u8]) -> usize
     ensures prefix_len { IsPrefixLen result out.new }
     ensures out_after { take result out.new ≡ decoded_of line.now (length out.old) }
     ensures out_unchanged { drop result out.new ≡ drop result out.old }
 {
-    let mut n: usize = 0;
     let mut at: usize = 0;
-    while n < out.len() {
+    for n in 0..out.len() {
         let from = past_space(line, at);
-        let byte = pair(character(line, from), character(line, from + 1));
-        if byte > 255 {
+        let Some(byte) = pair(character(line, from), character(line, from + 1)) else {
             return n;
-        }
-        out[n] = byte as u8;
-        n += 1;
+        };
+        out[n] = byte;
         at = from + 2;
     }
-    n
+    out.len()
 }
 
 // Reads until a buffer is full or the input ends, and gives how many bytes were read: they stand at its start, in order, and where they don't fill it nothing is left.

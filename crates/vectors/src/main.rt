@@ -5,37 +5,22 @@
 
 mod table; // CRC-16 by a table
 
-ghost use Rattle.std.specs.Prelude.{◌≡◌, length};
+ghost use Rattle.std.specs.Iterator.{IsFinite};
 
 use std::io;
-use text::tally;
-use text::tally::Tally;
+use text::tally::{Summary, Tally, Verdict};
 use words::Halves;
 
 // The checksum that a frame carries, its last two bytes, low byte first; 0 where it has no two.
 fn sent(frame: &[u8]) -> u16 {
-    let n = frame.len();
-    if n < 2 {
-        return 0;
+    match frame {
+        [.., low, high] => u16::join(*high, *low),
+        _ => 0,
     }
-    u16::join(frame[n - 1], frame[n - 2])
 }
 
-// The verdict, both checksums, and the line as it was read.
-fn print_frame(
-    rt: &impl Print,
-    agrees: bool,
-    library: u16,
-    table: u16,
-    line: &[u8],
-) -> io::Result<()> {
-    tally::print_verdict(rt, agrees)?;
-    print!(rt; "{library:04x} {table:04x}  ")?;
-    rt.write_all(line)?;
-    println!(rt)
-}
-
-// The frame of one line: the library, the table and the frame itself have one checksum, and the library takes the frame.
+// The frame of one line: the library, the table and the frame itself have one checksum, and the library takes the frame. What is printed is the
+// verdict, both checksums, and the line as it was read.
 fn compare_frame(rt: &impl Print, line: &[u8]) -> io::Result<bool> {
     let mut space = [0u8; 260];
     let n = text::decode(line, &mut space);
@@ -44,21 +29,19 @@ fn compare_frame(rt: &impl Print, line: &[u8]) -> io::Result<bool> {
     let library = rtu::crc::crc16(body);
     let table = table::crc16(body);
     let agrees = (library == table) & (library == sent(frame)) & rtu::frame::is_good(frame);
-    print_frame(rt, agrees, library, table, line)?;
+    print!(rt; "{}{library:04x} {table:04x}  ", Verdict(agrees))?;
+    rt.write_all(line)?;
+    println!(rt)?;
     Ok(agrees)
 }
 
 // Every frame of the input.
 fn compare_frames(rt: &impl Print, input: &[u8]) -> io::Result<Tally> {
     let mut tally = Tally::none();
-    let mut at = 0;
-    while at < input.len() {
-        let end = text::find(input, at, b'\n');
-        let line = &input[at..end];
+    for line in input.split(|c| *c == b'\n') {
         if !text::is_passed_over(line) {
             tally = tally.with(compare_frame(rt, line)?);
         }
-        at = end + 1;
     }
     Ok(tally)
 }
@@ -68,35 +51,28 @@ fn is_same(message: &[u8]) -> bool {
     rtu::crc::crc16(message) == table::crc16(message)
 }
 
+// Comparisons, counted.
+fn counted<I: Iterator<Item = bool>>(comparisons: I) -> Tally
+    requires can { I.can_next comparisons }
+    requires ends { IsFinite (I.remaining comparisons) }
+{
+    comparisons.fold(Tally::none(), |tally, agrees| tally.with(agrees))
+}
+
 // Every byte as a message of its own, each of which takes another entry of the table.
 fn sweep_bytes() -> Tally {
-    let mut tally = Tally::none();
-    for b in 0u32..256 {
-        let message = [b as u8];
-        tally = tally.with(is_same(&message));
-    }
-    tally
+    counted((0..=255u8).map(|b| is_same(&[b])))
 }
 
 // 256 bytes, of which no two are equal.
-fn pattern() -> [u8; 256]
-    ensures { 256 ≡ length result }
-{
-    let mut message = [0u8; 256];
-    for i in 0usize..256 {
-        message[i] = ((i * 37 + 11) % 256) as u8;
-    }
-    message
+fn pattern() -> [u8; 256] {
+    std::array::from_fn(|i| ((i * 37 + 11) % 256) as u8)
 }
 
 // The first bytes of the pattern as a message, at every length.
 fn sweep_lengths() -> Tally {
     let message = pattern();
-    let mut tally = Tally::none();
-    for n in 0usize..257 {
-        tally = tally.with(is_same(&message[..n]));
-    }
-    tally
+    counted((0..=256usize).map(|n| is_same(&message[..n])))
 }
 
 // Whether the round of a sum and a word is the table's step of the low byte and then of the high byte.
@@ -106,26 +82,26 @@ fn is_round(sum: u16, word: u16) -> bool {
 
 // Every sum, each with a word of its own.
 fn sweep_sums() -> Tally {
-    let mut tally = Tally::none();
-    for sum in 0u32..65536 {
-        let word = sum * 40503 % 65536;
-        tally = tally.with(is_round(sum as u16, word as u16));
-    }
-    tally
+    counted((0..=0xFFFFu16).map(|sum| is_round(sum, sum.wrapping_mul(40503))))
+}
+
+fn print(rt: &impl Print, tally: Tally, what: &str) -> io::Result<()> {
+    println!(rt; "{}", Summary { tally, what })
 }
 
 fn main(rt: HostRuntime) -> io::Result<()> {
     let mut space = [0u8; 131072];
     let n = text::read_full(&mut rt.reader(), &mut space)?;
-    if n == 131072 {
+    if n == space.len() {
         return text::print_cut_off(&rt);
     }
     let frames = compare_frames(&rt, &space[..n])?;
-    sweep_bytes().print(&rt, b" messages of one byte, every byte, ")?;
-    sweep_lengths().print(
+    print(&rt, sweep_bytes(), "messages of one byte, every byte")?;
+    print(
         &rt,
-        b" messages of one pattern, every length from 0 to 256, ",
+        sweep_lengths(),
+        "messages of one pattern, every length from 0 to 256",
     )?;
-    sweep_sums().print(&rt, b" rounds, every sum, ")?;
-    frames.print(&rt, b" frames, ")
+    print(&rt, sweep_sums(), "rounds, every sum")?;
+    print(&rt, frames, "frames")
 }

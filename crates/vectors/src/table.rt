@@ -34,9 +34,5 @@ pub fn step(crc: u16, byte: u8) -> u16 {
 
 // The checksum of all bytes of a slice.
 pub fn crc16(bytes: &[u8]) -> u16 {
-    let mut crc: u16 = 0xFFFF;
-    for i in 0..bytes.len() {
-        crc = step(crc, bytes[i]);
-    }
-    crc
+    bytes.iter().fold(0xFFFF, |crc, byte| step(crc, *byte))
 }

@@ -7,12 +7,14 @@ use native.Mathlib.Omega.{arith}
 use lib.Ieee.{Float, binary32, to_bits}
 use borrow.Author.Tests.{ne_eqb}
 use Rattle.floats.specs.Floats.{pattern, float_of, high_word, low_word}
-use Rattle.floats.specs.declared.FloatOf.TheVariants.{Finite}
+use Rattle.std.specs.Prelude.{Some}
 use Rattle.floats.proofs.Bools.{no}
 use Rattle.floats.proofs.Words.{float_and_back}
 use Rattle.parameters.specs.Parameters.{parameter_number, parameter_part}
+use Rattle.refusals.specs.declared.codes.Code.TheVariants.{SensorMode}
+use Rattle.fields.specs.declared.Access.TheVariants.{ReadOnly, Modal}
 use Rattle.fields.specs.declared.Field.{Field}
-use Rattle.fields.specs.Fields.Found.{Row}
+use Rattle.std.specs.Prelude.{Some}
 use Rattle.fields.specs.Fields.{field_at}
 use Rattle.sensors.specs.Sensors.{parameter_of}
 use Rattle.sensors.specs.Changes.{procedure, active, with_procedure, with_active, with_parameters, with_level, with_parameter}
@@ -37,7 +39,7 @@ pub record Takes (sensor : ℕ) (s t : Setup) (o high low : ℕ) : Type 0 where
   pub low_shown : (x : Sample) → one_word o ≡ false → sensor_register sensor (record { setup = t; sample = x }) (suc o) ≡ content_of t o % 65536
 
 -- the bits of a float are those of its words
-bits : (high low : ℕ) (x : Float) → float_of high low ≡ Finite x → high < 65536 → low < 65536 → to_bits binary32 x ≡ pattern high low
+bits : (high low : ℕ) (x : Float) → float_of high low ≡ Some x → high < 65536 → low < 65536 → to_bits binary32 x ≡ pattern high low
 unfolding high_word low_word
 bits high low x e hh hl = let b = float_and_back high low x hh hl e in omega arith
 
@@ -109,16 +111,16 @@ module _ (n : ℕ) (s : Setup) (high low : ℕ) where
     sentinel-takes (suc (suc (suc (suc k)))) o l h e = absurd (omega arith)
 
 -- a write that is stored, of a field of the map that isn't read-only and isn't the command
-module _ (sensor : ℕ) (s : Setup) (r : ℕ) (f : Field) (found : field_at r ≡ Row f) (writable : f.access ≡ 0 → ⊥) (value : f.offset ≡ 5 → ⊥)
+module _ (sensor : ℕ) (s : Setup) (r : ℕ) (f : Field) (found : field_at r ≡ Some f) (writable : f.access ≡ ReadOnly → ⊥) (value : f.offset ≡ 5 → ⊥)
     (high low : ℕ) (context : Context) (t : Setup) (e : write_of sensor s f high low context ≡ Stored t) where
   -- a field that is writable in mode only was written in mode
-  mode_on_holds : f.access ≡ 2 → s.procedure.calibrating ≡ true
+  mode_on_holds : f.access ≡ Modal → s.procedure.calibrating ≡ true
   unfolding write_of
   mode_on_holds a = go s.procedure.calibrating refl
     where
       go : (b : Bool) → s.procedure.calibrating ≡ b → s.procedure.calibrating ≡ true
       go true q = q
-      go false q = let p : Refused 0x92 ≡ Stored t = rw (a, q) at e in let z : ◌≡◌ {A = ℕ} 0 1 = cc in absurd (omega arith)
+      go false q = let p : Refused SensorMode ≡ Stored t = rw (a, q) at e in let z : ◌≡◌ {A = ℕ} 0 1 = cc in absurd (omega arith)
 
   -- by the cases of what was stored; the rules of the table give the field's own offset
   pub effect : Takes sensor s t f.offset high low

@@ -1,12 +1,14 @@
 -- What a write keeps: a valid setup valid, one of the format of the format, and the coefficients in force unless it journals; and the codes
 -- of a refusal. Assumes nothing.
-use mathlib.Core.Path.{◌≡◌, refl, ap}
+use mathlib.Core.Path.{◌≡◌, refl, ap, subst}
 use mathlib.Core.Bool.{true, ◌&&◌}
 use mathlib.Core.List.{List, [], ◌∷◌}
 use Prim.Native.Nat.{ℕ, ◌≤◌}
 use native.Mathlib.Omega.{arith}
 use lib.Dec.{T, eqb, ltb}
 use lib.Ieee.{Float, binary32, fits}
+use Rattle.std.specs.Prelude.{Option, Some, None}
+use Rattle.refusals.specs.declared.codes.Code.{Code}
 use Rattle.floats.specs.Floats.{finite, pattern}
 use Rattle.floats.proofs.Bools.{both, choose}
 use Rattle.floats.proofs.Words.{float_of_finite, float_of_fits}
@@ -31,7 +33,7 @@ use Rattle.writes.specs.Writes.{trial_at, point_at, with_sentinel, with_float, w
 use Rattle.commands.specs.Commands.{code_of, setup_after, entries_of, method_set}
 use Rattle.commands.specs.declared.Context.{Context}
 use Rattle.commands.specs.declared.Written.{Written}
-use Rattle.writes.proofs.Outcomes.{Code, not_accepted, float_below, Change, same, restart, next, method, float, level, units, Outcome, refused, failed, stored, update, write_outcome}
+use Rattle.writes.proofs.Outcomes.{Refuses, some_same, none_some, not_accepted, float_below, Change, same, restart, next, method, float, level, units, Outcome, refused, failed, stored, update, write_outcome}
 
 -- ---- coefficients and points with one value replaced
 
@@ -153,10 +155,10 @@ change_active n s o high low (units k r i p u) = refl
 
 -- ---- the answer to a write
 
--- what a write journals: nothing, and the calibration in force stays; or the one entry of an update, which has code 0
-pub data Journalled (sensor : ℕ) (s t : Setup) (context : Context) (code : ℕ) : List Entry → Type 0 where
+-- what a write journals: nothing, and the calibration in force stays; or the one entry of an update, which no code refuses
+pub data Journalled (sensor : ℕ) (s t : Setup) (context : Context) (code : Option Code) : List Entry → Type 0 where
   nothing : t.active.calibration ≡ s.active.calibration → Journalled sensor s t context code []
-  entry : (e : Entry) → code ≡ 0 → context.spare ≡ true → e.sensor ≡ sensor → replaced_by s.active.calibration e ≡ t.active.calibration
+  entry : (e : Entry) → code ≡ None → context.spare ≡ true → e.sensor ≡ sensor → replaced_by s.active.calibration e ≡ t.active.calibration
       → (valid_setup sensor s ≡ true → valid_entry e ≡ true) → (SetupFits s → entry_fits e ≡ true) → Journalled sensor s t context code (e ∷ [])
 
 module _ (sensor : ℕ) (s : Setup) (f : Field) (high low : ℕ) (context : Context) where
@@ -210,11 +212,11 @@ module _ (sensor : ℕ) (s : Setup) (f : Field) (high low : ℕ) (context : Cont
           (λ v. accepted_entry_fits sensor n trial points c context.clock context.technician v.fits_procedure.fits_trial v.fits_procedure.fits_points j)
 
   -- a refusal's code is 0x92, 0x84, 0x97 or 0xC0
-  pub codes : (code_of x ≡ 0 → ⊥) → Code (code_of x)
-  codes = of came
+  pub codes : (code : Code) → code_of x ≡ Some code → Refuses code
+  codes code = of came
     where
-      of : {w : Written} → Comes w → (code_of w ≡ 0 → ⊥) → Code (code_of w)
-      of (refused h) n = h
-      of (failed c i u m j) n = not_accepted
-      of (stored h) n = absurd (n refl)
-      of (update c i u m r j) n = absurd (n refl)
+      of : {w : Written} → Comes w → code_of w ≡ Some code → Refuses code
+      of (refused h) e = subst Refuses (some_same e) h
+      of (failed c i u m j) e = subst Refuses (some_same e) not_accepted
+      of (stored h) e = absurd (none_some e)
+      of (update c i u m r j) e = absurd (none_some e)

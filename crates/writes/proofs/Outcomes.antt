@@ -1,22 +1,25 @@
 -- What a write can come to, by cases: refused by one of four codes, an update that failed for its limits alone, one value stored, or an update.
 -- Assumes nothing.
 use mathlib.Core.Path.{◌≡◌, refl, subst}
+use Rattle.std.specs.Prelude.{Some, None}
 use mathlib.Core.Bool.{Bool, true, false, ◌&&◌, not}
 use Prim.Native.Nat.{ℕ, ◌≤◌}
 use native.Mathlib.Omega.{arith}
 use lib.Dec.{eqb, leb}
 use lib.Ieee.{Float}
 use borrow.Author.Tests.{eqb-true, leb-true}
+use Rattle.refusals.specs.declared.codes.Code.{Code}
+use Rattle.refusals.specs.declared.codes.Code.TheVariants.{SensorMode, WriteValue, InvalidCalibration, JournalFull}
+use Rattle.std.specs.Prelude.{Option, Some, None, Result, Ok, Err}
 use Rattle.floats.specs.Floats.{pattern, float_of}
-use Rattle.floats.specs.declared.FloatOf.{FloatOf}
-use Rattle.floats.specs.declared.FloatOf.TheVariants.{Finite, NotFinite}
 use Rattle.floats.proofs.Bools.{both, choose}
 use Rattle.methods.specs.Methods.{judged_of}
 use Rattle.coefficients.specs.declared.Coefficients.{Coefficients}
-use Rattle.methods.specs.declared.Verdict.{Verdict}
-use Rattle.methods.specs.declared.Verdict.TheVariants.{Accepted, OutsideLimits, NotFinite as CandidateNotFinite, Undefined}
+use Rattle.methods.specs.declared.Rejection.{Rejection}
+use Rattle.methods.specs.declared.Rejection.TheVariants.{OutsideLimits, NotFinite, Undefined}
 use Rattle.entries.specs.Entries.{method_allowed, entry_of}
 use Rattle.parameters.specs.Parameters.{parameter_number, parameter_part, id_of, units_allowed, level_allowed}
+use Rattle.fields.specs.Fields.{is_modal}
 use Rattle.fields.specs.declared.Field.{Field}
 use Rattle.sensors.specs.Sensors.{parameter_of}
 use Rattle.sensors.specs.Changes.{procedure, active, with_procedure, with_active, with_parameters, with_trial, with_level, restarted, calibrated_at, with_parameter}
@@ -28,11 +31,17 @@ use Rattle.commands.specs.declared.Written.{Written}
 use Rattle.commands.specs.declared.Written.TheVariants.{Refused, Failed, Stored, Updated}
 
 -- the codes that refuse a write of a whole field
-pub data Code : ℕ → Type 0 where
-  mode_off : Code 0x92
-  not_listed : Code 0x84
-  not_accepted : Code 0x97
-  journal_full : Code 0xC0
+pub data Refuses : Code → Type 0 where
+  mode_off : Refuses SensorMode
+  not_listed : Refuses WriteValue
+  not_accepted : Refuses InvalidCalibration
+  journal_full : Refuses JournalFull
+
+pub some_same : {a b : Code} → Some a ≡ Some b → a ≡ b
+some_same e = cc
+
+pub none_some : {A : Type 0} {a : A} → None ≡ Some a → ⊥
+none_some e = cc
 
 -- the fields that hold a float: coefficients and points, and the sentinels, part 5 of each parameter
 pub data FloatAt (o : ℕ) : Type 0 where
@@ -50,7 +59,7 @@ pub data Change (sensor : ℕ) (s : Setup) (o high low : ℕ) : Setup → Type 0
   next : o ≡ 3 → Change sensor s o high low (with_active s (active s.active.calibration (pattern high low)))
   method : o ≡ 6 → method_allowed sensor high ≡ true
       → Change sensor s o high low (with_procedure s (procedure s.procedure.calibrating s.procedure.trial high s.procedure.points))
-  float : (x : Float) → FloatAt o → float_of high low ≡ Finite x → Change sensor s o high low (with_float s o x)
+  float : (x : Float) → FloatAt o → float_of high low ≡ Some x → Change sensor s o high low (with_float s o x)
   level : (30 ≤ o) × (o ≤ 53) → parameter_part o ≡ 2 → level_allowed high ≡ true
       → Change sensor s o high low (with_parameters s (with_level s.parameters high))
   units : (k : ℕ) → (30 ≤ o) × (o ≤ 53) → k ≡ parameter_number o → parameter_part o ≡ 3 → units_allowed (id_of sensor k) high ≡ true
@@ -58,22 +67,22 @@ pub data Change (sensor : ℕ) (s : Setup) (o high low : ℕ) : Setup → Type 0
 
 -- what a write comes to
 pub data Outcome (sensor : ℕ) (s : Setup) (o high low : ℕ) (context : Context) : Written → Type 0 where
-  refused : {code : ℕ} → Code code → Outcome sensor s o high low context (Refused code)
-  failed : (c : Coefficients) → o ≡ 5 → high ≡ 0xE001 → s.procedure.calibrating ≡ true → judged_of sensor (method_set s) ≡ OutsideLimits c
+  refused : {code : Code} → Refuses code → Outcome sensor s o high low context (Refused code)
+  failed : (c : Coefficients) → o ≡ 5 → high ≡ 0xE001 → s.procedure.calibrating ≡ true → judged_of sensor (method_set s) ≡ Err (OutsideLimits c)
       → Outcome sensor s o high low context (Failed (with_trial s c))
   stored : {t : Setup} → Change sensor s o high low t → Outcome sensor s o high low context (Stored t)
-  update : (c : Coefficients) → o ≡ 5 → high ≡ 0xE001 → s.procedure.calibrating ≡ true → context.spare ≡ true → judged_of sensor (method_set s) ≡ Accepted c
+  update : (c : Coefficients) → o ≡ 5 → high ≡ 0xE001 → s.procedure.calibrating ≡ true → context.spare ≡ true → judged_of sensor (method_set s) ≡ Ok c
       → Outcome sensor s o high low context (Updated (calibrated_at s c context.clock) (entry_of sensor (method_set s) c context.clock context.technician))
 
 module _ (sensor : ℕ) (s : Setup) (o high low : ℕ) (context : Context) where
   abbrev P : Written → Type 0
   P = Outcome sensor s o high low context
 
-  judged_outcome : o ≡ 5 → high ≡ 0xE001 → s.procedure.calibrating ≡ true → (v : Verdict) → judged_of sensor (method_set s) ≡ v → P (judged_update sensor s context v)
-  judged_outcome i u m (Accepted c) e = choose P context.spare _ _ (λ r. update c i u m r e) (λ r. refused journal_full)
-  judged_outcome i u m (OutsideLimits c) e = failed c i u m e
-  judged_outcome i u m CandidateNotFinite e = refused not_accepted
-  judged_outcome i u m Undefined e = refused not_accepted
+  judged_outcome : o ≡ 5 → high ≡ 0xE001 → s.procedure.calibrating ≡ true → (v : Result Coefficients Rejection) → judged_of sensor (method_set s) ≡ v → P (judged_update sensor s context v)
+  judged_outcome i u m (Ok c) e = choose P context.spare _ _ (λ r. update c i u m r e) (λ r. refused journal_full)
+  judged_outcome i u m (Err (OutsideLimits c)) e = failed c i u m e
+  judged_outcome i u m (Err NotFinite) e = refused not_accepted
+  judged_outcome i u m (Err (Undefined cause)) e = refused not_accepted
 
   command_outcome : o ≡ 5 → P (commanded sensor s high context)
   unfolding commanded updated
@@ -88,9 +97,9 @@ module _ (sensor : ℕ) (s : Setup) (o high low : ℕ) (context : Context) where
   unfolding float_written
   float_outcome a = go (float_of high low) refl
     where
-      go : (r : FloatOf) → float_of high low ≡ r → P (float_stored s o r)
-      go (Finite x) e = stored (float x a e)
-      go NotFinite e = refused not_listed
+      go : (r : Option Float) → float_of high low ≡ r → P (float_stored s o r)
+      go (Some x) e = stored (float x a e)
+      go None e = refused not_listed
 
   parameter_outcome : (30 ≤ o) × (o ≤ 53) → P (parameter_written sensor s o high low)
   unfolding parameter_written level_written units_written
@@ -121,7 +130,7 @@ pub write_outcome : (sensor : ℕ) (s : Setup) (f : Field) (high low : ℕ) (con
     → Outcome sensor s f.offset high low context (write_of sensor s f high low context)
 unfolding write_of
 write_outcome sensor s f high low context =
-    choose P (eqb f.access 2 && not s.procedure.calibrating) _ _ (λ e. refused mode_off) (λ e. field_outcome sensor s f.offset high low context)
+    choose P (is_modal f.access && not s.procedure.calibrating) _ _ (λ e. refused mode_off) (λ e. field_outcome sensor s f.offset high low context)
   where
     P : Written → Type 0
     P = Outcome sensor s f.offset high low context

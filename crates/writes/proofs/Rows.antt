@@ -4,13 +4,14 @@ use mathlib.Core.Path.{◌≡◌, refl}
 use mathlib.Core.Bool.{Bool, true, ◌&&◌, ◌||◌, not, cond, beq}
 use Prim.Native.Nat.{ℕ, ◌/◌, ◌%◌, ◌≤◌}
 use lib.Dec.{eqb, leb, ltb}
-use borrow.Author.Tests.{eqb-true, eq-eqb, ne_eqb, le-leb}
+use borrow.Author.Tests.{eqb-true, eq-eqb, le-leb}
 use Rattle.floats.proofs.Bools.{beq_true}
 use Rattle.parameters.specs.Parameters.{parameter_part}
+use Rattle.fields.specs.declared.Access.TheVariants.{ReadOnly, Modal}
 use Rattle.fields.specs.declared.Field.{Field}
-use Rattle.fields.specs.Fields.Found.{Row}
-use Rattle.fields.specs.Fields.{fields, owner_bit, owns, field_at}
-use Rattle.fields.proofs.Computed.{other, given, every, below, at_number}
+use Rattle.std.specs.Prelude.{Some}
+use Rattle.fields.specs.Fields.{is_read_only, is_modal, fields, owner_bit, owns, field_at}
+use Rattle.fields.proofs.Computed.{other, given, not_read_only, modal_access, every, below, at_number}
 use Rattle.fields.proofs.Registers.{owner_below, found_test, found_covered}
 
 -- the fields of one word: the command, the method, the technician's number, and of a parameter the id and the units, parts 2 and 3
@@ -22,16 +23,16 @@ abbrev pub settled : ℕ → Bool
 settled part = eqb part 2 || (eqb part 3 || eqb part 5)
 
 -- the row of a register, where it can be written
-module _ (r : ℕ) (f : Field) (found : field_at r ≡ Row f) (writable : f.access ≡ 0 → ⊥) where
+module _ (r : ℕ) (f : Field) (found : field_at r ≡ Some f) (writable : f.access ≡ ReadOnly → ⊥) where
   abbrev o : ℕ
   o = f.offset
 
   -- it passes a test that all such rows pass
-  passes : (t : Field → Bool) → every (λ g. eqb g.access 0 || t g) fields ≡ true → t f ≡ true
-  passes t h = other (eqb f.access 0) (t f) (ne_eqb f.access 0 writable) (found_test (λ g. eqb g.access 0 || t g) h r f found)
+  passes : (t : Field → Bool) → every (λ g. is_read_only g.access || t g) fields ≡ true → t f ≡ true
+  passes t h = other (is_read_only f.access) (t f) (not_read_only f.access writable) (found_test (λ g. is_read_only g.access || t g) h r f found)
 
   -- it passes t where it passes c, if all such rows do
-  rule : (c t : Field → Bool) → every (λ g. eqb g.access 0 || (not (c g) || t g)) fields ≡ true → c f ≡ true → t f ≡ true
+  rule : (c t : Field → Bool) → every (λ g. is_read_only g.access || (not (c g) || t g)) fields ≡ true → c f ≡ true → t f ≡ true
   rule c t h = given (c f) (t f) (passes (λ g. not (c g) || t g) h)
 
   pub one_word_holds : eqb f.words 1 ≡ one_word o
@@ -42,8 +43,8 @@ module _ (r : ℕ) (f : Field) (found : field_at r ≡ Row f) (writable : f.acce
   even l h = eqb-true (o % 2) 0 (rule (λ g. leb 10 g.offset && leb g.offset 23) (λ g. eqb (g.offset % 2) 0) refl (rw (le-leb 10 o l, le-leb o 23 h)))
 
   -- coefficients are writable in mode only
-  pub modal : 10 ≤ o → o ≤ 15 → f.access ≡ 2
-  modal l h = eqb-true f.access 2 (rule (λ g. leb 10 g.offset && leb g.offset 15) (λ g. eqb g.access 2) refl (rw (le-leb 10 o l, le-leb o 15 h)))
+  pub modal : 10 ≤ o → o ≤ 15 → f.access ≡ Modal
+  modal l h = modal_access f.access (rule (λ g. leb 10 g.offset && leb g.offset 15) (λ g. is_modal g.access) refl (rw (le-leb 10 o l, le-leb o 15 h)))
 
   -- the id that can be written is parameter 2's
   pub level_offset : parameter_part o ≡ 2 → o ≡ 40

@@ -9,7 +9,8 @@ use borrow.Author.Tests.{eqb-true}
 use Rattle.floats.specs.Floats.{pattern}
 use Rattle.floats.proofs.Bools.{no}
 use Rattle.fields.specs.declared.Field.{Field}
-use Rattle.fields.specs.Fields.Found.{Row}
+use Rattle.std.specs.Prelude.{Some, None}
+use Rattle.fields.specs.declared.Access.TheVariants.{ReadOnly}
 use Rattle.fields.specs.Fields.{field_at}
 use Rattle.fields.proofs.Writable.{device_written_lem}
 use Rattle.sensors.specs.declared.Setup.{Setup}
@@ -22,12 +23,12 @@ use Rattle.commands.specs.Commands.{code_of, setup_after, technician_after}
 use Rattle.commands.specs.declared.Context.{Context}
 use Rattle.commands.specs.declared.Written.{Written}
 use Rattle.commands.specs.declared.Written.TheVariants.{Stored}
-use Rattle.writes.proofs.Outcomes.{Code, mode_off, not_listed, not_accepted, journal_full, Outcome, refused, failed, stored, update, write_outcome}
+use Rattle.writes.proofs.Outcomes.{none_some, Outcome, refused, failed, stored, update, write_outcome}
 use Rattle.writes.proofs.Rows.{one_word_holds, level_sensor}
 use Rattle.writes.proofs.Contents.{Takes, effect, write_stores}
 
 -- a sensor's write that is stored, of a field of the map that isn't read-only and isn't the command
-module _ (s : Setup) (r : ℕ) (f : Field) (found : field_at r ≡ Row f) (writable : f.access ≡ 0 → ⊥) (value : f.offset ≡ 5 → ⊥)
+module _ (s : Setup) (r : ℕ) (f : Field) (found : field_at r ≡ Some f) (writable : f.access ≡ ReadOnly → ⊥) (value : f.offset ≡ 5 → ⊥)
     (high low : ℕ) (context : Context) (t : Setup) (e : write_of (r / 100) s f high low context ≡ Stored t) (x : Sample) where
   takes : Takes (r / 100) s t f.offset high low
   takes = effect (r / 100) s r f found writable value high low context t e
@@ -52,13 +53,6 @@ module _ (s : Setup) (r : ℕ) (f : Field) (found : field_at r ≡ Row f) (writa
 
 -- ---- by the owner
 
--- no refusal has code 0
-refused_code : {code : ℕ} → Code code → code ≡ 0 → ⊥
-refused_code mode_off e = omega arith
-refused_code not_listed e = omega arith
-refused_code not_accepted e = omega arith
-refused_code journal_full e = omega arith
-
 -- the device's values with the technician's number that a write leaves
 abbrev pub device_after : Device → Written → Device
 device_after d w =
@@ -73,7 +67,7 @@ device_after d w =
     }
 
 -- a write that isn't refused, of any field of the map that isn't read-only and isn't a sensor's command
-module _ (d : Device) (s : Setup) (r : ℕ) (f : Field) (found : field_at r ≡ Row f) (writable : f.access ≡ 0 → ⊥) (value : f.offset ≡ 5 → ⊥)
+module _ (d : Device) (s : Setup) (r : ℕ) (f : Field) (found : field_at r ≡ Some f) (writable : f.access ≡ ReadOnly → ⊥) (value : f.offset ≡ 5 → ⊥)
     (high low : ℕ) (context : Context) (x : Sample) where
   -- what the register of the field's owner at an offset then shows
   abbrev pub reads : Written → ℕ → ℕ
@@ -83,26 +77,26 @@ module _ (d : Device) (s : Setup) (r : ℕ) (f : Field) (found : field_at r ≡ 
   w = write_to (r / 100) s f high low context
 
   -- a sensor's is stored: an update writes the command
-  is_stored : {y : Written} → Outcome (r / 100) s f.offset high low context y → code_of y ≡ 0 → y ≡ Stored (setup_after s y)
-  is_stored (refused c) e = absurd (refused_code c e)
-  is_stored (failed c i u m j) e = absurd (omega arith)
+  is_stored : {y : Written} → Outcome (r / 100) s f.offset high low context y → code_of y ≡ None → y ≡ Stored (setup_after s y)
+  is_stored (refused c) e = absurd (none_some (sym e))
+  is_stored (failed c i u m j) e = absurd (none_some (sym e))
   is_stored (stored c) e = refl
   is_stored (update c i u m k j) e = absurd (value i)
 
   -- the field's first register then reads as the first word written, whatever is measured
-  pub write_shown : code_of w ≡ 0 → high < 65536 → low < 65536 → reads w f.offset ≡ high
+  pub write_shown : code_of w ≡ None → high < 65536 → low < 65536 → reads w f.offset ≡ high
   unfolding register_of write_to device_written device_register
   write_shown e hh hl = go (eqb (r / 100) 0) refl e
     where
-      go : (b : Bool) → eqb (r / 100) 0 ≡ b → code_of w ≡ 0 → reads w f.offset ≡ high
+      go : (b : Bool) → eqb (r / 100) 0 ≡ b → code_of w ≡ None → reads w f.offset ≡ high
       go true q e = rw (q, device_written_lem r f found writable (eqb-true (r / 100) 0 q))
       go false q e = rw q (stored_shown s r f found writable value high low context _ (is_stored (write_outcome (r / 100) s f high low context) (rw q at e)) x hh hl)
 
   -- and the second register of a field of two words as the second
-  pub write_shown_low : code_of w ≡ 0 → high < 65536 → low < 65536 → eqb f.words 1 ≡ false → reads w (suc f.offset) ≡ low
+  pub write_shown_low : code_of w ≡ None → high < 65536 → low < 65536 → eqb f.words 1 ≡ false → reads w (suc f.offset) ≡ low
   unfolding register_of write_to device_written
   write_shown_low e hh hl two = go (eqb (r / 100) 0) refl e
     where
-      go : (b : Bool) → eqb (r / 100) 0 ≡ b → code_of w ≡ 0 → reads w (suc f.offset) ≡ low
+      go : (b : Bool) → eqb (r / 100) 0 ≡ b → code_of w ≡ None → reads w (suc f.offset) ≡ low
       go true q e = absurd (no (sym two ∙ one_word_holds r f found writable ∙ rw (device_written_lem r f found writable (eqb-true (r / 100) 0 q))))
       go false q e = rw q (stored_shown_low s r f found writable value high low context _ (is_stored (write_outcome (r / 100) s f high low context) (rw q at e)) x hh hl two)

@@ -4,14 +4,16 @@ use mathlib.Core.Bool.{Bool, true, false}
 use mathlib.Core.List.{List, [], ◌∷◌}
 use Prim.Native.Nat.{ℕ, ◌/◌}
 use lib.Ieee.{binary32, sub, mul, div, round, of_bits, to_bits, le, eq}
+use Rattle.refusals.specs.Codes.{byte_of}
+use Rattle.refusals.specs.declared.codes.Code.TheVariants.{IllegalDataAddress}
 use Rattle.floats.specs.Floats.{near, near_minus, finite, float_of, is_plus_zero}
 use Rattle.coefficients.specs.Coefficients.{all_finite, defaults_of, in_limits}
 use Rattle.methods.specs.Methods.{method_of, candidate_of, verdict_of, judged_of}
 use Rattle.entries.specs.Entries.{method_allowed}
 use Rattle.parameters.specs.Parameters.{id_of, default_units}
+use Rattle.fields.specs.declared.Field.{Field}
 use Rattle.fields.specs.Fields.{owner_bit, owns, holds, field_at}
-use Rattle.fields.specs.Fields.{Found}
-use Rattle.fields.specs.Fields.Found.{Row, Absent}
+use Rattle.std.specs.Prelude.{Option, Some, None}
 use Rattle.sensors.specs.Sensors.{fresh_parameter, fresh_parameters, fresh_setup}
 use Rattle.sensors.specs.Changes.{new_procedure, restarted, calibrated_at}
 use Rattle.sensors.specs.declared.Setup.{Setup}
@@ -20,9 +22,9 @@ use Rattle.writes.specs.Writes.{method_written, trial_at, point_at, with_float, 
 use Rattle.commands.specs.declared.Written.{Written}
 use Rattle.commands.specs.declared.Written.TheVariants.{Refused, Failed, Stored, Updated, Technician}
 
-abbrev write_row : Found → ℕ → Setup → ℕ → ℕ → Bool → Written
-write_row (Row f) owner s high low spare = write_to owner s f high low (context 70000 spare 7)
-write_row Absent owner s high low spare = Refused 2
+abbrev write_row : Option Field → ℕ → Setup → ℕ → ℕ → Bool → Written
+write_row (Some f) owner s high low spare = write_to owner s f high low (context 70000 spare 7)
+write_row None owner s high low spare = Refused IllegalDataAddress
 
 -- the field that a register begins, written at clock 70000 by technician 7
 abbrev write : Setup → ℕ → ℕ → ℕ → Bool → Written
@@ -35,7 +37,7 @@ next s register high = setup_after s (write s register high 0 true)
 -- what an update gives: its code; of one that failed the candidate, and of the entry sensor, method, technician,
 -- time, coefficients and points; of the device the technician's number
 abbrev told : Written → List ℕ
-told (Refused code) = code ∷ []
+told (Refused code) = byte_of code ∷ []
 told (Failed t) =
     0x97 ∷ to_bits binary32 t.procedure.trial.coefficient1 ∷ to_bits binary32 t.procedure.trial.coefficient2 ∷ to_bits binary32 t.procedure.trial.coefficient3 ∷ []
 told (Stored t) = 0 ∷ []

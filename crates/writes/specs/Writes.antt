@@ -1,16 +1,16 @@
 -- What a write of one whole field that isn't read-only does to a sensor's setup, or to the device. One definition for the frame call and for the
 -- control book. Document 01, "Calibration", "Register map" and the codes of "What is sent back": 0x92, 0x84, 0x97, 0xC0 in that order; 0xC2 comes
 -- before them, at `target_in` of plans. Document 02, wish 3. Assumes nothing.
-use Rattle.std.specs.Prelude.{◌&&◌, not, cond, ℕ, eqb, leb, ltb, Float}
-use Rattle.floats.specs.Floats.{pattern, float_of, code_of}
-use Rattle.floats.specs.declared.FloatOf.{FloatOf}
-use Rattle.floats.specs.declared.FloatOf.TheVariants.{Finite, NotFinite}
+use Rattle.std.specs.Prelude.{◌&&◌, not, cond, ℕ, eqb, leb, ltb, Float, Option, Some, None}
+use Rattle.refusals.specs.declared.codes.Code.TheVariants.{SensorMode, WriteValue}
+use Rattle.floats.specs.Floats.{pattern, float_of}
 use Rattle.coefficients.specs.Coefficients.{coefficients}
 use Rattle.coefficients.specs.declared.Coefficients.{Coefficients}
 use Rattle.methods.specs.Methods.{points}
 use Rattle.methods.specs.declared.Points.{Points}
 use Rattle.entries.specs.Entries.{method_allowed}
 use Rattle.parameters.specs.Parameters.{parameter_number, parameter_part, id_of, units_allowed, level_allowed}
+use Rattle.fields.specs.Fields.{is_modal}
 use Rattle.fields.specs.declared.Field.{Field}
 use Rattle.sensors.specs.Sensors.{parameter_of}
 use Rattle.sensors.specs.Changes.{procedure, active, with_procedure, with_active, with_parameters, with_trial, with_points, with_level, with_parameter}
@@ -32,7 +32,7 @@ unfoldable pub method_written : ℕ → Setup → ℕ → Written
 method_written sensor s value =
     cond (method_allowed sensor value)
     (Stored (with_procedure s (procedure s.procedure.calibrating s.procedure.trial value s.procedure.points)))
-    (Refused 0x84)
+    (Refused WriteValue)
 
 -- ---- floats
 
@@ -61,9 +61,9 @@ with_float s offset x =
     (with_parameters s (with_sentinel s.parameters (parameter_number offset) x)))
 
 -- "float not finite": the code of what two words hold, 0x84
-abbrev pub float_stored : Setup → ℕ → FloatOf → Written
-float_stored s offset (Finite x) = Stored (with_float s offset x)
-float_stored s offset NotFinite = Refused (code_of NotFinite)
+abbrev pub float_stored : Setup → ℕ → Option Float → Written
+float_stored s offset (Some x) = Stored (with_float s offset x)
+float_stored s offset None = Refused WriteValue
 
 unfoldable pub float_written : Setup → ℕ → ℕ → ℕ → Written
 float_written s offset high low = float_stored s offset (float_of high low)
@@ -75,14 +75,14 @@ unfoldable pub level_written : Setup → ℕ → Written
 level_written s value =
     cond (level_allowed value)
     (Stored (with_parameters s (with_level s.parameters value)))
-    (Refused 0x84)
+    (Refused WriteValue)
 
 -- "+3 units (W)": one of the units that the table lists for this parameter
 unfoldable pub units_written : ℕ → Setup → ℕ → ℕ → Written
 units_written sensor s k value =
     cond (units_allowed (id_of sensor k) value)
     (Stored (with_parameters s (with_parameter s.parameters k (record { units = value; sentinel = (parameter_of s.parameters k).sentinel }))))
-    (Refused 0x84)
+    (Refused WriteValue)
 
 -- "Parameter k begins at 30 + 8 × (k - 1): .. +2 id, +3 units (W), .. +5 sentinel (W ..)". No writable field is at another part: there 0x84,
 -- "value not listed", makes it total
@@ -90,7 +90,7 @@ unfoldable pub parameter_written : ℕ → Setup → ℕ → ℕ → ℕ → Wri
 parameter_written sensor s o high low =
     cond (eqb (parameter_part o) 2) (level_written s high)
     (cond (eqb (parameter_part o) 3) (units_written sensor s (parameter_number o) high)
-    (cond (eqb (parameter_part o) 5) (float_written s o high low) (Refused 0x84)))
+    (cond (eqb (parameter_part o) 5) (float_written s o high low) (Refused WriteValue)))
 
 -- ---- the write of a sensor's field
 
@@ -103,12 +103,12 @@ field_written sensor s o high low context =
     (cond (eqb o 6) (method_written sensor s high)
     (cond (leb 10 o && leb o 23) (float_written s o high low)
     (cond (leb 30 o && leb o 53) (parameter_written sensor s o high low)
-    (Refused 0x84)))))
+    (Refused WriteValue)))))
 
 -- "M field .., mode off" is 0x92, then the value
 unfoldable pub write_of : ℕ → Setup → Field → ℕ → ℕ → Context → Written
 write_of sensor s field high low context =
-    cond (eqb field.access 2 && not s.procedure.calibrating) (Refused 0x92) (field_written sensor s field.offset high low context)
+    cond (is_modal field.access && not s.procedure.calibrating) (Refused SensorMode) (field_written sensor s field.offset high low context)
 
 -- ---- the write by its field's owner
 

@@ -8,10 +8,9 @@ ghost use Rattle.writes.specs.Writes.{next_written, method_written, trial_at, po
 use coefficients::Coefficients;
 use commands::{Context, Written, command};
 use entries::method_allowed;
-use fields::{Field, MODAL};
-use floats::FloatOf;
+use fields::{Access, Field};
 use methods::Points;
-use refusals::codes;
+use refusals::codes::Code;
 use sensors::{Parameters, Setup};
 use words::Halves;
 
@@ -29,7 +28,7 @@ fn write_method(sensor: u16, mut s: Setup, value: u16) -> Written
     ensures { result ≡ method_written sensor s value }
 {
     if !method_allowed(sensor, value) {
-        return Written::Refused(codes::WRITE_VALUE);
+        return Written::Refused(Code::WriteValue);
     }
     s.procedure.method = value;
     Written::Stored(s)
@@ -96,10 +95,9 @@ fn with_float(mut s: Setup, offset: u16, x: f32) -> Setup
 fn write_float(s: Setup, offset: u16, high: u16, low: u16) -> Written
     ensures { result ≡ float_written s offset high low }
 {
-    let value = floats::float_of(high, low);
-    match value {
-        FloatOf::Finite(x) => Written::Stored(with_float(s, offset, x)),
-        FloatOf::NotFinite => Written::Refused(floats::code_of(value)),
+    match floats::float_of(high, low) {
+        Some(x) => Written::Stored(with_float(s, offset, x)),
+        None => Written::Refused(Code::WriteValue),
     }
 }
 
@@ -109,7 +107,7 @@ fn write_level(mut s: Setup, value: u16) -> Written
     ensures { result ≡ level_written s value }
 {
     if !parameters::level_allowed(value) {
-        return Written::Refused(codes::WRITE_VALUE);
+        return Written::Refused(Code::WriteValue);
     }
     s.parameters.level = value;
     Written::Stored(s)
@@ -121,7 +119,7 @@ fn write_units(sensor: u16, mut s: Setup, k: u16, value: u16) -> Written
 {
     let id = parameters::parameter_id(sensor, k);
     if !parameters::units_allowed(id, value) {
-        return Written::Refused(codes::WRITE_VALUE);
+        return Written::Refused(Code::WriteValue);
     }
     let q = s.parameters;
     let mut p = q.parameter(k);
@@ -142,7 +140,7 @@ fn write_parameter(sensor: u16, s: Setup, offset: u16, high: u16, low: u16) -> W
         2 => write_level(s, high),
         3 => write_units(sensor, s, (offset - 30) / 8 + 1, high),
         5 => write_float(s, offset, high, low),
-        _ => Written::Refused(codes::WRITE_VALUE),
+        _ => Written::Refused(Code::WriteValue),
     }
 }
 
@@ -157,7 +155,7 @@ fn write_field(sensor: u16, s: Setup, offset: u16, high: u16, low: u16, context:
         6 => write_method(sensor, s, high),
         10..=23 => write_float(s, offset, high, low),
         30..=53 => write_parameter(sensor, s, offset, high, low),
-        _ => Written::Refused(codes::WRITE_VALUE),
+        _ => Written::Refused(Code::WriteValue),
     }
 }
 
@@ -174,8 +172,8 @@ fn write_sensor(
     ensures { result ≡ write_of sensor s field high low context }
 {
     let calibrating = s.procedure.calibrating;
-    if (field.access == MODAL) & !calibrating {
-        return Written::Refused(codes::SENSOR_MODE);
+    if (field.access == Access::Modal) & !calibrating {
+        return Written::Refused(Code::SensorMode);
     }
     write_field(sensor, s, field.offset, high, low, context)
 }

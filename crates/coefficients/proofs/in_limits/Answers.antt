@@ -1,7 +1,6 @@
 -- The tests are those of the table, row by row; each literal of the source is the float nearest to its decimal, by computation. Assumes
 -- nothing.
 use lib.Ieee.{neg, of_bits, round}
-use borrow.Author.Tests.{ne_eqb}
 use Rattle.floats.specs.Floats.{near_minus, near}
 use Rattle.coefficients.specs.Coefficients.{in_limits}
 use Rattle.coefficients.proofs.in_limits.Goals as goal
@@ -25,9 +24,3 @@ pub returns-in-4 : goal.returns-in-4
 unfolding in_limits near_minus neg near of_bits round
 returns-in-4 c =
     simp (c.in-4.is, c.within-in-4.ensures, c.within-in-4-2.ensures, c.is_plus_zero-in-4.ensures)
-
-pub returns-in_default : goal.returns-in_default
-unfolding in_limits
-returns-in_default c =
-    let none = c.in_default.in_default-own.rest in
-    simp (ne_eqb _ _ none.0.0.0.1, ne_eqb _ _ none.0.0.1, ne_eqb _ _ none.0.1, ne_eqb _ _ none.1)

@@ -12,4 +12,4 @@ returns-then-width-eq0 c =
 pub returns : goal.returns
 returns c =
     let a = c.args in
-    c.put_rest.ensures ∙ rw c.last_digit.ensures (number_first a.width a.n a.buffer.now a.at (search rules))
+    c.put_cells.ensures ∙ rw c.last_digit.ensures (number_first a.width a.n a.buffer.now a.at (search rules))

@@ -1,5 +1,5 @@
 -- The numbers come first, in their order; then what the frame changes is put into the sonde. Assumes nothing.
-use mathlib.Core.Path.{◌≡◌, sym, ap, ◌∙◌}
+use mathlib.Core.Path.{sym, ap, ◌∙◌}
 use native.Mathlib.Omega.{arith}
 use lib.ListN.{length}
 use borrow.Author.Tests.{ltb-false}
@@ -10,21 +10,21 @@ use Rattle.state.specs.Sonde.{sensor_at}
 use Rattle.service.specs.Agrees.{agrees}
 use Rattle.service.specs.Frame.{plan_for, arrival}
 use Rattle.service.proofs.Parts.{frame_facts}
-use Rattle.admission.specs.Steps.{number_by}
 use Rattle.admission.proofs.Owners.{owner_below}
 use Rattle.sonde.proofs.Left.{refused_left, refused_bytes, passed, handed_on, step_bytes, nothing_left, setup-left}
 use Rattle.sonde.proofs.sonde_frame.Goals as goal
 
-pub returns-then-number-ne-DONE : goal.returns-then-number-ne-DONE
+pub returns-in-Err : goal.returns-in-Err
 unfolding agrees
-returns-then-number-ne-DONE c =
+returns-in-Err c =
     let a = c.args in
-    let e : c.number_of-number.result ≡ number_by a.ascii (length a.reply.now) (agrees a.sonde a.volume.now)
-    = c.number_of-number.ensures ∙ rw (c.is_valid.ensures, c.journal_agrees.ensures, c.opening.ensures) in
-    let k = refused_left a.sonde a.frame.now a.reply.now a.volume.now (arrival a.clock a.ascii) c.number_of-number.result e c.if-number-ne-DONE.true in
+    let e = sym c.admit.ensures ∙ c.in-Err.is in
+    let t = rw (c.is_valid.ensures, c.journal_agrees.ensures, c.opening.ensures) at e in
+    let k = refused_left a.sonde a.frame.now a.reply.now a.volume.now (arrival a.clock a.ascii) c.in-Err.refusal t in
+    rw c.from.ensures
     record {
       as_defined = k;
-      answers_bytes = refused_bytes a.sonde a.frame.now a.reply.now a.volume.now (arrival a.clock a.ascii) c.number_of-number.result k c.if-number-ne-DONE.true;
+      answers_bytes = refused_bytes a.sonde a.frame.now a.reply.now a.volume.now (arrival a.clock a.ascii) c.in-Err.refusal k;
     }
 
 pub slice_bounds-decoded-end : goal.slice_bounds-decoded-end
@@ -46,48 +46,39 @@ pub serve-served-requires : goal.serve-served-requires
 unfolding agrees
 serve-served-requires c =
     let a = c.args in
-    let e : c.number_of-number.result ≡ number_by a.ascii (length a.reply.now) (agrees a.sonde a.volume.now)
-    = c.number_of-number.ensures ∙ rw (c.is_valid.ensures, c.journal_agrees.ensures, c.opening.ensures) in
-    let q = passed a.ascii (length a.reply.now) (agrees a.sonde a.volume.now) c.number_of-number.result e c.if-number-ne-DONE.false in
+    let t = rw (c.is_valid.ensures, c.journal_agrees.ensures, c.opening.ensures) at (sym c.admit.ensures ∙ c.in_default.is) in
+    let q = passed a.ascii (length a.reply.now) (agrees a.sonde a.volume.now) t in
     let f = handed_on a.ascii a.frame.now _ _ c.body-body.ensures c.decode-n.ensures.body in
     (ltb-false (length a.reply.now) (room_in a.ascii) q.0, rw f (carried_most a.ascii a.frame.now), c.judge-judged.ensures)
 
-pub bounds-sonde-i-in-Setup : goal.bounds-sonde-i-in-Setup
-bounds-sonde-i-in-Setup c = omega (arith, c.sensor_index-i.ensures.1)
-
-pub bounds-sonde-i-in-Setup-2 : goal.bounds-sonde-i-in-Setup-2
-bounds-sonde-i-in-Setup-2 c = omega (arith, c.sensor_index-i.ensures.1)
-
-pub returns-in-Nothing : goal.returns-in-Nothing
+pub returns-in_default-change : goal.returns-in_default-change
 unfolding agrees sensor_at
-returns-in-Nothing c =
+returns-in_default-change c =
     let a = c.args in
-    let e : c.number_of-number.result ≡ number_by a.ascii (length a.reply.now) (agrees a.sonde a.volume.now)
-    = c.number_of-number.ensures ∙ rw (c.is_valid.ensures, c.journal_agrees.ensures, c.opening.ensures) in
+    let t = rw (c.is_valid.ensures, c.journal_agrees.ensures, c.opening.ensures) at (sym c.admit.ensures ∙ c.in_default.is) in
     let f = handed_on a.ascii a.frame.now _ _ c.body-body.ensures c.decode-n.ensures.body in
     let own = rw c.judge-judged.ensures at c.sensor_index-i.ensures.0 in
     let x = ap carried_by f ∙ carried_again a.ascii a.frame.now in
     record {
-      as_defined = nothing_left a.sonde a.frame.now a.reply.now a.volume.now (arrival a.clock a.ascii) c.number_of-number.result e c.if-number-ne-DONE.false
+      as_defined = nothing_left a.sonde a.frame.now a.reply.now a.volume.now (arrival a.clock a.ascii) t
           _ x c.serve-served.result _ _ _ _ (rw own)
-          c.serve-served.ensures.value c.serve-served.ensures.reply_after c.serve-served.ensures.volume_after c.count-after.ensures c.in-Nothing.is;
-      answers_bytes = step_bytes a.sonde a.frame.now a.reply.now a.volume.now (arrival a.clock a.ascii) c.number_of-number.result e c.if-number-ne-DONE.false
+          c.serve-served.ensures.value c.serve-served.ensures.reply_after c.serve-served.ensures.volume_after c.count-after.ensures c.in_default-change.is;
+      answers_bytes = step_bytes a.sonde a.frame.now a.reply.now a.volume.now (arrival a.clock a.ascii) t
           _ x _ (rw own) c.serve-served.ensures.bytes;
     }
 
-pub returns-in-Setup : goal.returns-in-Setup
+pub returns-in-Some : goal.returns-in-Some
 unfolding agrees sensor_at
-returns-in-Setup c =
+returns-in-Some c =
     let a = c.args in
-    let e : c.number_of-number.result ≡ number_by a.ascii (length a.reply.now) (agrees a.sonde a.volume.now)
-    = c.number_of-number.ensures ∙ rw (c.is_valid.ensures, c.journal_agrees.ensures, c.opening.ensures) in
+    let t = rw (c.is_valid.ensures, c.journal_agrees.ensures, c.opening.ensures) at (sym c.admit.ensures ∙ c.in_default.is) in
     let f = handed_on a.ascii a.frame.now _ _ c.body-body.ensures c.decode-n.ensures.body in
     let own = rw c.judge-judged.ensures at c.sensor_index-i.ensures.0 in
     let x = ap carried_by f ∙ carried_again a.ascii a.frame.now in
     record {
-      as_defined = setup-left a.sonde a.frame.now a.reply.now a.volume.now (arrival a.clock a.ascii) c.number_of-number.result e c.if-number-ne-DONE.false
+      as_defined = setup-left a.sonde a.frame.now a.reply.now a.volume.now (arrival a.clock a.ascii) t
           _ x c.serve-served.result _ _ _ _ (rw own)
-          c.serve-served.ensures.value c.serve-served.ensures.reply_after c.serve-served.ensures.volume_after c.count-after.ensures _ _ _ c.in-Setup.is c.with_setup-t.ensures own;
-      answers_bytes = step_bytes a.sonde a.frame.now a.reply.now a.volume.now (arrival a.clock a.ascii) c.number_of-number.result e c.if-number-ne-DONE.false
+          c.serve-served.ensures.value c.serve-served.ensures.reply_after c.serve-served.ensures.volume_after c.count-after.ensures _ _ _ c.in-Some.is c.with_setup-t.ensures own;
+      answers_bytes = step_bytes a.sonde a.frame.now a.reply.now a.volume.now (arrival a.clock a.ascii) t
           _ x _ (rw own) c.serve-served.ensures.bytes;
     }

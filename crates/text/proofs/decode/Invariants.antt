@@ -7,11 +7,7 @@ use Rattle.text.specs.Hex.{decoded_from, decoded_of}
 use Rattle.text.proofs.decode.Given as goal
 
 abbrev pub invariant-loop-n : goal.invariant-loop-n
-invariant-loop-n l = (l.n ≤ length l.out)
-    × (l.at ≤ length l.line + 1)
+invariant-loop-n l = (l.at ≤ length l.line + 1)
     × (length l.out ≡ length l.initial.out)
     × (take l.n l.out ++ decoded_from l.line l.at (length l.initial.out - l.n) ≡ decoded_of l.line (length l.initial.out))
     × (drop l.n l.out ≡ drop l.n l.initial.out)
-
-abbrev pub decreases-loop-n : goal.decreases-loop-n
-decreases-loop-n l = length l.initial.out - l.n

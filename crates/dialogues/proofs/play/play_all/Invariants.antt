@@ -1,9 +1,0 @@
--- A line begins at most one past the end. Assumes nothing.
-use Rattle.std.proofs.Common.{◌≤◌, ◌+◌, ◌-◌, length}
-use Rattle.dialogues.proofs.play.play_all.Given as goal
-
-abbrev pub invariant-loop-at : goal.invariant-loop-at
-invariant-loop-at _ l = l.at ≤ length l.input + 1
-
-abbrev pub decreases-loop-at : goal.decreases-loop-at
-decreases-loop-at _ l = length l.input + 1 - l.at
