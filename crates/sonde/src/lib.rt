@@ -56,8 +56,7 @@ pub fn sonde_frame(
     ensures as_defined { outcome result reply.new volume.new ≡ frame_of sonde frame.now reply.old volume.old (arrival clock ascii) }
     ensures answers_bytes { AnswersBytes sonde frame.now reply.old volume.old (arrival clock ascii) }
 {
-    let agreed = sonde.is_valid()
-        & consistency::journal_agrees(&consistency::opening(&sonde), volume);
+    let agreed = consistency::agrees(&sonde, volume);
     if let Err(refusal) = admission::admit(ascii, reply.len(), agreed) {
         return SondeFrame {
             number: u8::from(refusal),

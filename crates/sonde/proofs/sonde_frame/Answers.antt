@@ -19,7 +19,7 @@ unfolding agrees
 returns-in-Err c =
     let a = c.args in
     let e = sym c.admit.ensures ∙ c.in-Err.is in
-    let t = rw (c.is_valid.ensures, c.journal_agrees.ensures, c.opening.ensures) at e in
+    let t = rw c.agrees-agreed.ensures at e in
     let k = refused_left a.sonde a.frame.now a.reply.now a.volume.now (arrival a.clock a.ascii) c.in-Err.refusal t in
     rw c.from.ensures
     record {
@@ -46,7 +46,7 @@ pub serve-served-requires : goal.serve-served-requires
 unfolding agrees
 serve-served-requires c =
     let a = c.args in
-    let t = rw (c.is_valid.ensures, c.journal_agrees.ensures, c.opening.ensures) at (sym c.admit.ensures ∙ c.in_default.is) in
+    let t = rw c.agrees-agreed.ensures at (sym c.admit.ensures ∙ c.in_default.is) in
     let q = passed a.ascii (length a.reply.now) (agrees a.sonde a.volume.now) t in
     let f = handed_on a.ascii a.frame.now _ _ c.body-body.ensures c.decode-n.ensures.body in
     (ltb-false (length a.reply.now) (room_in a.ascii) q.0, rw f (carried_most a.ascii a.frame.now), c.judge-judged.ensures)
@@ -55,7 +55,7 @@ pub returns-in_default-change : goal.returns-in_default-change
 unfolding agrees sensor_at
 returns-in_default-change c =
     let a = c.args in
-    let t = rw (c.is_valid.ensures, c.journal_agrees.ensures, c.opening.ensures) at (sym c.admit.ensures ∙ c.in_default.is) in
+    let t = rw c.agrees-agreed.ensures at (sym c.admit.ensures ∙ c.in_default.is) in
     let f = handed_on a.ascii a.frame.now _ _ c.body-body.ensures c.decode-n.ensures.body in
     let own = rw c.judge-judged.ensures at c.sensor_index-i.ensures.0 in
     let x = ap carried_by f ∙ carried_again a.ascii a.frame.now in
@@ -71,7 +71,7 @@ pub returns-in-Some : goal.returns-in-Some
 unfolding agrees sensor_at
 returns-in-Some c =
     let a = c.args in
-    let t = rw (c.is_valid.ensures, c.journal_agrees.ensures, c.opening.ensures) at (sym c.admit.ensures ∙ c.in_default.is) in
+    let t = rw c.agrees-agreed.ensures at (sym c.admit.ensures ∙ c.in_default.is) in
     let f = handed_on a.ascii a.frame.now _ _ c.body-body.ensures c.decode-n.ensures.body in
     let own = rw c.judge-judged.ensures at c.sensor_index-i.ensures.0 in
     let x = ap carried_by f ∙ carried_again a.ascii a.frame.now in
