@@ -53,15 +53,15 @@ fn answer(
     own: u8,
     counters: Counters,
     technician: u16,
-    sensor: Sensor,
+    sensor: &Sensor,
     header: Header,
     body: &[u8],
     arrival: Arrival,
 ) -> Effect
     requires { (256 ≤ length reply.old) × (length body.now ≤ 254) × Facts body.now plan }
-    ensures value { result ≡ effect_of (step_of own (device_of counters technician volume.old arrival) sensor header body.now volume.old plan) }
-    ensures reply_after { reply.new ≡ overlay (step_of own (device_of counters technician volume.old arrival) sensor header body.now volume.old plan).body reply.old }
-    ensures volume_after { volume.new ≡ (step_of own (device_of counters technician volume.old arrival) sensor header body.now volume.old plan).volume }
+    ensures value { result ≡ effect_of (step_of own (device_of counters technician volume.old arrival) sensor.now header body.now volume.old plan) }
+    ensures reply_after { reply.new ≡ overlay (step_of own (device_of counters technician volume.old arrival) sensor.now header body.now volume.old plan).body reply.old }
+    ensures volume_after { volume.new ≡ (step_of own (device_of counters technician volume.old arrival) sensor.now header body.now volume.old plan).volume }
 {
     match plan {
         Plan::Bad => counted(Event::Bad, 0, technician),
@@ -78,7 +78,7 @@ fn answer(
                 reply,
                 own,
                 &reads::device(counters, technician, volume, arrival),
-                &sensor,
+                sensor,
                 start,
                 count,
             ),
@@ -113,14 +113,14 @@ pub fn serve(
     own: u8,
     counters: Counters,
     technician: u16,
-    sensor: Sensor,
+    sensor: &Sensor,
     arrival: Arrival,
 ) -> Served
     requires { (room_in arrival.ascii ≤ length reply.old) × (length body.now ≤ 254) × (judged ≡ judged_of own body.now) }
-    ensures value { result ≡ served_of arrival.ascii (step_for own (device_of counters technician volume.old arrival) sensor (carried_by body.now) volume.old) }
-    ensures reply_after { reply.new ≡ overlay (reply_of arrival.ascii (step_for own (device_of counters technician volume.old arrival) sensor (carried_by body.now) volume.old).body) reply.old }
-    ensures volume_after { volume.new ≡ (step_for own (device_of counters technician volume.old arrival) sensor (carried_by body.now) volume.old).volume }
-    ensures bytes { Bytes (step_for own (device_of counters technician volume.old arrival) sensor (carried_by body.now) volume.old).body }
+    ensures value { result ≡ served_of arrival.ascii (step_for own (device_of counters technician volume.old arrival) sensor.now (carried_by body.now) volume.old) }
+    ensures reply_after { reply.new ≡ overlay (reply_of arrival.ascii (step_for own (device_of counters technician volume.old arrival) sensor.now (carried_by body.now) volume.old).body) reply.old }
+    ensures volume_after { volume.new ≡ (step_for own (device_of counters technician volume.old arrival) sensor.now (carried_by body.now) volume.old).volume }
+    ensures bytes { Bytes (step_for own (device_of counters technician volume.old arrival) sensor.now (carried_by body.now) volume.old).body }
 {
     let plan = judged.plan;
     let effect = answer(

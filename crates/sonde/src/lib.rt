@@ -72,7 +72,6 @@ pub fn sonde_frame(
     let i = admission::sensor_index(judged);
     let counters = sonde.counters;
     let technician = sonde.technician;
-    let s = sonde.sensors[i];
     let served = frames::serve(
         judged,
         body,
@@ -81,7 +80,7 @@ pub fn sonde_frame(
         sonde.address,
         counters,
         technician,
-        s,
+        &sonde.sensors[i],
         Arrival { clock, ascii },
     );
     let event = served.event;

@@ -54,14 +54,14 @@ answer-effect-requires c =
 pub seal-requires : goal.seal-requires
 seal-requires c =
     let a = c.args in
-    let e = c.answer-effect.ensures.value ∙ ap effect_of (step_same a.own (device_of a.counters a.technician a.volume.now a.arrival) a.sensor a.body.now a.volume.now a.judged c.requires.2) in
-    (rw e (for_short a.own (device_of a.counters a.technician a.volume.now a.arrival) a.sensor a.body.now a.volume.now c.requires.1), search rules)
+    let e = c.answer-effect.ensures.value ∙ ap effect_of (step_same a.own (device_of a.counters a.technician a.volume.now a.arrival) a.sensor.now a.body.now a.volume.now a.judged c.requires.2) in
+    (rw e (for_short a.own (device_of a.counters a.technician a.volume.now a.arrival) a.sensor.now a.body.now a.volume.now c.requires.1), search rules)
 
 pub returns : goal.returns
 returns c =
     let a = c.args in
-    let p = step_same a.own (device_of a.counters a.technician a.volume.now a.arrival) a.sensor a.body.now a.volume.now a.judged c.requires.2 in
-    let y = step_for a.own (device_of a.counters a.technician a.volume.now a.arrival) a.sensor (carried_by a.body.now) a.volume.now in
+    let p = step_same a.own (device_of a.counters a.technician a.volume.now a.arrival) a.sensor.now a.body.now a.volume.now a.judged c.requires.2 in
+    let y = step_for a.own (device_of a.counters a.technician a.volume.now a.arrival) a.sensor.now (carried_by a.body.now) a.volume.now in
     let e : c.answer-effect.result ≡ effect_of y = c.answer-effect.ensures.value ∙ ap effect_of p in
     let r : c.answer-effect.new.reply ≡ overlay y.body a.reply.now = c.answer-effect.ensures.reply_after ∙ ap (λ (z : Step). overlay z.body a.reply.now) p in
     let w : c.answer-effect.new.volume ≡ y.volume = c.answer-effect.ensures.volume_after ∙ ap (λ (z : Step). z.volume) p in
