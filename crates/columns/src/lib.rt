@@ -53,6 +53,7 @@ fn put_cells<const BASE: u32, const ZERO: u8>(buffer: &mut [u8], at: usize, widt
 }
 
 // A number in decimal, right-aligned with blanks. Of a number that doesn't fit the column its last digits are shown.
+#[tactic(auto, using(crate::proofs::Stores::number_none, crate::proofs::Stores::number_first))]
 pub fn put_number(buffer: &mut [u8], at: usize, width: usize, n: u32)
     requires { at + width ≤ length buffer.old }
     ensures { buffer.new ≡ sets buffer.old at (number width n) }

@@ -22,14 +22,14 @@ use Rattle.journal.specs.Valid.{valid_header, opening_at, valid_openings, valid_
 use Rattle.journal.specs.Journal.{on, firsts, lasts}
 use Rattle.recovery.specs.Salvage.{relinked, salvage_of}
 use Rattle.journal.specs.Replay.{replay_of, replays}
-use Rattle.parameters.specs.Parameters.{id_of, default_units, units_allowed, level_allowed}
+use Rattle.parameters.specs.Parameters.{quantity_of, level_allowed}
 use Rattle.fields.specs.Fields.{owner_bit, owns, holds, exactly, field_at, whole_field, span_of}
 use Rattle.sensors.specs.Sensors.{fresh_parameter, fresh_parameters, fresh_setup, fresh_sensor, units_valid, level_valid, valid_parameter, valid_parameters, valid_procedure, valid_setup, valid_sensor}
 use Rattle.sensors.specs.Changes.{new_procedure, restarted, calibrated_at, sensor_with_setup}
 use Rattle.registers.specs.Registers.{mode_of, shown_coefficients, coefficient_register, head_register, sensor_register, device_register, register_of}
 use Rattle.commands.specs.Commands.{updated, commanded}
 use Rattle.writes.specs.Writes.{method_written, point_at, with_float, float_written, field_written, write_of, device_written, write_to}
-use Rattle.plans.specs.Plans.{target_of, read_plan, plan_of}
+use Rattle.plans.specs.Plans.{target_of, read_plan, write_plan, plan_of}
 use Rattle.audit.specs.Audit.{replayed}
 use Rattle.state.specs.Sonde.{fresh_counters, incremented, fresh_sonde, powered_sonde, sensor_at, setup_at, with_sensor, with_setup, with_technician, counted_by, address_valid, valid_sonde}
 use Rattle.journal.specs.Contents.{journal_of}
@@ -52,10 +52,10 @@ unfolding crc_bit crc_bits crc_byte crc_from crc_of checksum_of framed body_of i
     all_finite same_coefficients same_calibration defaults_of in_limits method_of candidate_of verdict_of judged_of
     method_allowed points_finite same_points valid_entry replaced_by capacity_of entry_words number_at float_at entry_at valid_calibration header begin_words stores_of spare_for append_up_to
     valid_header opening_at valid_openings valid_entry_at chain_of valid_link valid_chain valid_chains valid_entries valid replay_of replays
-    id_of default_units units_allowed level_allowed owner_bit owns holds exactly field_at whole_field span_of
+    quantity_of level_allowed owner_bit owns holds exactly field_at whole_field span_of
     new_procedure fresh_parameter fresh_parameters fresh_setup fresh_sensor units_valid level_valid valid_parameter valid_parameters valid_procedure valid_setup valid_sensor restarted calibrated_at sensor_with_setup
     mode_of shown_coefficients coefficient_register head_register sensor_register device_register register_of updated commanded
-    method_written point_at with_float float_written field_written write_of device_written write_to target_of read_plan plan_of
+    method_written point_at with_float float_written field_written write_of device_written write_to target_of read_plan write_plan plan_of
     fresh_counters incremented fresh_sonde powered_sonde replayed sensor_at setup_at with_sensor with_setup with_technician counted_by address_valid valid_sonde
     openings same_calibrations journal_agrees agrees begin_of power_up_of device_of register_at reading_body sent write_body written_by sonde_after carried_out answer_of reply_of left frame_of cut_of on firsts lasts relinked salvage_of
     journal_of last last_or cells number hex behind spaced characters columns_of line_of lines_of page_of printed_on print_of

@@ -1,8 +1,10 @@
 -- The parameters of the sensors. Document 01, "Register map", the table of ids and units. Assumes nothing.
-use Rattle.std.specs.Prelude.{Bool, false, ◌&&◌, ◌||◌, cond, ℕ, zero, suc, ◌+◌, ◌-◌, ◌*◌, ◌/◌, ◌%◌, eqb, leb, Float}
+use Rattle.std.specs.Prelude.{Bool, ◌&&◌, ◌||◌, cond, ℕ, zero, suc, ◌+◌, ◌-◌, ◌*◌, ◌/◌, ◌%◌, eqb, leb, Float, Option, Some, None}
 use Rattle.std.specs.Float.{binary32}
 use Rattle.std.specs.Float.Ieee.{add, mul}
 use Rattle.floats.specs.Floats.{near}
+use Rattle.parameters.specs.declared.Quantity.{Quantity}
+use Rattle.parameters.specs.declared.Quantity.TheVariants.{Temperature, Conductivity, Resistivity, Oxygen, Pressure, Level, Chlorophyll}
 
 -- "number of parameters"
 unfoldable pub count_of : ℕ → ℕ
@@ -15,35 +17,53 @@ parameter_number offset = (offset - 30) / 8 + 1
 abbrev pub parameter_part : ℕ → ℕ
 parameter_part offset = (offset - 30) % 8
 
--- the column "id", by sensor and parameter; of the level's three the first; 0 is no parameter
-unfoldable pub id_of : ℕ → ℕ → ℕ
-id_of sensor k =
-    cond (eqb sensor 1) (cond (eqb k 1) 1 (cond (eqb k 2) 9 (cond (eqb k 3) 11 0)))
-    (cond (eqb sensor 2) (cond (eqb k 1) 20 0)
-    (cond (eqb sensor 3) (cond (eqb k 1) 2 (cond (eqb k 2) 3 0))
-    (cond (eqb sensor 4) (cond (eqb k 1) 51 0) 0)))
+-- which parameters a sensor has, by their numbers
+unfoldable pub quantity_of : ℕ → ℕ → Option Quantity
+quantity_of sensor k =
+    cond (eqb sensor 1) (cond (eqb k 1) (Some Temperature) (cond (eqb k 2) (Some Conductivity) (cond (eqb k 3) (Some Resistivity) None)))
+    (cond (eqb sensor 2) (cond (eqb k 1) (Some Oxygen) None)
+    (cond (eqb sensor 3) (cond (eqb k 1) (Some Pressure) (cond (eqb k 2) (Some Level) None))
+    (cond (eqb sensor 4) (cond (eqb k 1) (Some Chlorophyll) None) None)))
+
+-- the column "id"; of the level's three the first
+abbrev pub id_of : Quantity → ℕ
+id_of Temperature = 1
+id_of Conductivity = 9
+id_of Resistivity = 11
+id_of Oxygen = 20
+id_of Pressure = 2
+id_of Level = 3
+id_of Chlorophyll = 51
 
 -- the column "units": "Defaults are the first listed"
-unfoldable pub default_units : ℕ → ℕ
-default_units id =
-    cond (eqb id 1) 1 (cond (eqb id 9) 65 (cond (eqb id 11) 81 (cond (eqb id 20) 117 (cond (eqb id 2) 17 (cond (eqb id 3) 35 (cond (eqb id 51) 118 0))))))
+abbrev pub default_units : Quantity → ℕ
+default_units Temperature = 1
+default_units Conductivity = 65
+default_units Resistivity = 81
+default_units Oxygen = 117
+default_units Pressure = 17
+default_units Level = 35
+default_units Chlorophyll = 118
 
 -- the units listed: 1 and 2; 65; 81; 117; 17, 19, 20, 21, 22; 35; 118
-unfoldable pub units_allowed : ℕ → ℕ → Bool
-units_allowed id units =
-    cond (eqb id 1) (eqb units 1 || eqb units 2)
-    (cond (eqb id 9) (eqb units 65)
-    (cond (eqb id 11) (eqb units 81)
-    (cond (eqb id 20) (eqb units 117)
-    (cond (eqb id 2) (eqb units 17 || (leb 19 units && leb units 22))
-    (cond (eqb id 3) (eqb units 35)
-    (cond (eqb id 51) (eqb units 118) false))))))
+abbrev pub units_allowed : Quantity → ℕ → Bool
+units_allowed Temperature units = eqb units 1 || eqb units 2
+units_allowed Conductivity units = eqb units 65
+units_allowed Resistivity units = eqb units 81
+units_allowed Oxygen units = eqb units 117
+units_allowed Pressure units = eqb units 17 || (leb 19 units && leb units 22)
+units_allowed Level units = eqb units 35
+units_allowed Chlorophyll units = eqb units 118
 
 -- the column "available"
-unfoldable pub available_units : ℕ → ℕ
-available_units id =
-    cond (eqb id 1) 0x0003
-    (cond (eqb id 9) 1 (cond (eqb id 11) 1 (cond (eqb id 20) 0x0010 (cond (eqb id 2) 0x003D (cond (eqb id 3) 0x0004 (cond (eqb id 51) 0x0020 0))))))
+abbrev pub available_units : Quantity → ℕ
+available_units Temperature = 0x0003
+available_units Conductivity = 1
+available_units Resistivity = 1
+available_units Oxygen = 0x0010
+available_units Pressure = 0x003D
+available_units Level = 0x0004
+available_units Chlorophyll = 0x0020
 
 -- ---- what the column "available" says: "Bit n of available units is the units id n above 1, 17, 33, 65, 81 or 113, the nearest of these not
 -- above it." parameters/proofs/Units has that law.
@@ -57,9 +77,9 @@ two_to zero = 1
 two_to (suc n) = 2 * two_to n
 
 -- the bits of the units below m that are listed for a parameter
-abbrev pub listed_bits : ℕ → ℕ → ℕ
-listed_bits id zero = 0
-listed_bits id (suc m) = cond (units_allowed id m) (two_to (m - units_base m)) 0 + listed_bits id m
+abbrev pub listed_bits : Quantity → ℕ → ℕ
+listed_bits q zero = 0
+listed_bits q (suc m) = cond (units_allowed q m) (two_to (m - units_base m)) 0 + listed_bits q m
 
 -- ---- level and conversion
 

@@ -1,9 +1,9 @@
-// The parameters that the sensors give: their ids, their units, and the conversion to a unit.
+// The parameters that the sensors give: their quantities, their units, and the conversion to a unit.
 
 #![tactic(auto)]
 
 ghost use Rattle.std.specs.Prelude.{◌≡◌};
-ghost use Rattle.parameters.specs.Parameters.{count_of, id_of, default_units, units_allowed, available_units, level_allowed, converted};
+ghost use Rattle.parameters.specs.Parameters.{count_of, quantity_of, id_of, default_units, units_allowed, available_units, level_allowed, converted};
 
 // The number of a sensor's parameters.
 #[tactic(auto, unfolding(crate::specs::Parameters::count_of))]
@@ -19,83 +19,96 @@ pub fn count(sensor: u16) -> u16
     }
 }
 
-// The id of parameter k, the level's as when fresh; 0 where the sensor has no such parameter.
-#[tactic(auto, unfolding(crate::specs::Parameters::id_of))]
-pub fn parameter_id(sensor: u16, k: u16) -> u16
-    ensures { result ≡ id_of sensor k }
-{
-    match sensor {
-        1 => match k {
-            1 => 1,
-            2 => 9,
-            3 => 11,
-            _ => 0,
-        },
-        2 => match k {
-            1 => 20,
-            _ => 0,
-        },
-        3 => match k {
-            1 => 2,
-            2 => 3,
-            _ => 0,
-        },
-        4 => match k {
-            1 => 51,
-            _ => 0,
-        },
-        _ => 0,
+// What a parameter measures.
+#[derive(Clone, Copy, Debug, PartialEq, Eq)]
+pub enum Quantity {
+    Temperature,
+    Conductivity,
+    Resistivity,
+    Oxygen,
+    Pressure,
+    Level,
+    Chlorophyll,
+}
+
+// The id that a register shows, the level's as when fresh.
+impl From<Quantity> for u16 {
+    ghost from_gives = { λ quantity id. id ≡ id_of quantity };
+
+    fn from(quantity: Quantity) -> u16 {
+        match quantity {
+            Quantity::Temperature => 1,
+            Quantity::Conductivity => 9,
+            Quantity::Resistivity => 11,
+            Quantity::Oxygen => 20,
+            Quantity::Pressure => 2,
+            Quantity::Level => 3,
+            Quantity::Chlorophyll => 51,
+        }
     }
 }
 
-// The units that a parameter has when fresh.
-#[tactic(auto, unfolding(crate::specs::Parameters::default_units))]
-pub fn default_units(id: u16) -> u16
-    ensures { result ≡ default_units id }
-{
-    match id {
-        1 => 1,
-        9 => 65,
-        11 => 81,
-        20 => 117,
-        2 => 17,
-        3 => 35,
-        51 => 118,
-        _ => 0,
+impl Quantity {
+    // The quantity of parameter k, where the sensor has such a parameter.
+    #[tactic(auto, unfolding(crate::specs::Parameters::quantity_of))]
+    pub fn of(sensor: u16, k: u16) -> Option<Self>
+        ensures { result ≡ quantity_of sensor k }
+    {
+        match (sensor, k) {
+            (1, 1) => Some(Quantity::Temperature),
+            (1, 2) => Some(Quantity::Conductivity),
+            (1, 3) => Some(Quantity::Resistivity),
+            (2, 1) => Some(Quantity::Oxygen),
+            (3, 1) => Some(Quantity::Pressure),
+            (3, 2) => Some(Quantity::Level),
+            (4, 1) => Some(Quantity::Chlorophyll),
+            _ => None,
+        }
     }
-}
 
-// Whether the table lists these units for the parameter.
-#[tactic(auto, unfolding(crate::specs::Parameters::units_allowed))]
-pub fn units_allowed(id: u16, units: u16) -> bool
-    ensures { result ≡ units_allowed id units }
-{
-    match id {
-        1 => (units == 1) | (units == 2),
-        9 => units == 65,
-        11 => units == 81,
-        20 => units == 117,
-        2 => (units == 17) | ((19 <= units) & (units <= 22)),
-        3 => units == 35,
-        51 => units == 118,
-        _ => false,
+    // The units when fresh.
+    pub fn default_units(self) -> u16
+        ensures { result ≡ default_units self }
+    {
+        match self {
+            Quantity::Temperature => 1,
+            Quantity::Conductivity => 65,
+            Quantity::Resistivity => 81,
+            Quantity::Oxygen => 117,
+            Quantity::Pressure => 17,
+            Quantity::Level => 35,
+            Quantity::Chlorophyll => 118,
+        }
     }
-}
 
-// The word that lists the units.
-#[tactic(auto, unfolding(crate::specs::Parameters::available_units))]
-pub fn available_units(id: u16) -> u16
-    ensures { result ≡ available_units id }
-{
-    match id {
-        1 => 0x0003,
-        9 => 1,
-        11 => 1,
-        20 => 0x0010,
-        2 => 0x003D,
-        3 => 0x0004,
-        51 => 0x0020,
-        _ => 0,
+    // Whether the table lists these units.
+    pub fn allows(self, units: u16) -> bool
+        ensures { result ≡ units_allowed self units }
+    {
+        match self {
+            Quantity::Temperature => (units == 1) | (units == 2),
+            Quantity::Conductivity => units == 65,
+            Quantity::Resistivity => units == 81,
+            Quantity::Oxygen => units == 117,
+            Quantity::Pressure => (units == 17) | ((19 <= units) & (units <= 22)),
+            Quantity::Level => units == 35,
+            Quantity::Chlorophyll => units == 118,
+        }
+    }
+
+    // The word that lists the units.
+    pub fn available_units(self) -> u16
+        ensures { result ≡ available_units self }
+    {
+        match self {
+            Quantity::Temperature => 0x0003,
+            Quantity::Conductivity => 1,
+            Quantity::Resistivity => 1,
+            Quantity::Oxygen => 0x0010,
+            Quantity::Pressure => 0x003D,
+            Quantity::Level => 0x0004,
+            Quantity::Chlorophyll => 0x0020,
+        }
     }
 }
 
@@ -107,7 +120,7 @@ pub fn level_allowed(id: u16) -> bool
     (3 <= id) & (id <= 5)
 }
 
-// A value in the units asked for.
+// A value in the units asked for. Units are numbers here, as `Parameter` of `sensors` has them for programs in C.
 #[tactic(auto, unfolding(crate::specs::Parameters::converted))]
 pub fn convert(units: u16, x: f32) -> f32
     ensures { result ≡ converted units x }

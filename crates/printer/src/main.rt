@@ -12,7 +12,7 @@ fn print(rt: &impl Print, bytes: &[u8]) -> io::Result<()> {
 }
 
 fn main(rt: HostRuntime) -> io::Result<()> {
-    let mut bytes = [0u8; 48129];
+    let mut bytes = [0u8; printout::MOST_BYTES + 1];
     let n = text::read_full(&mut rt.reader(), &mut bytes)?;
     print(&rt, &bytes[..n])
 }

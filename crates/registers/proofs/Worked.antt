@@ -6,7 +6,7 @@ use Prim.Native.Nat.{ℕ, zero, suc}
 use lib.Ieee.{Float, add, sub, mul, div, round, of_bits, to_bits, le, eq}
 use Rattle.floats.specs.Floats.{near, plus_zero, finite, high_word, low_word}
 use Rattle.coefficients.specs.Coefficients.{coefficients, defaults_of}
-use Rattle.parameters.specs.Parameters.{id_of, default_units, converted}
+use Rattle.parameters.specs.Parameters.{quantity_of, converted}
 use Rattle.sensors.specs.Sensors.{parameter_of, fresh_parameter, fresh_parameters, fresh_setup, fresh_sample}
 use Rattle.sensors.specs.Changes.{with_parameters, with_level, new_procedure, calibrated_at, raws_of, measured_of}
 use Rattle.sensors.specs.declared.Setup.{Setup}
@@ -43,5 +43,5 @@ pub record Worked : Type 0 where
 
 -- by computation
 pub worked : Worked
-unfolding sensor_register head_register mode_of shown_id parameter_register reading_register reading_of graded_reading worked_from value_of conductivity_value level_value calibrated_of resistivity_of height_of level_of_id pressure_of level_of parameter_of fresh_parameter fresh_parameters fresh_setup new_procedure calibrated_at measured_of id_of default_units converted defaults_of near round of_bits to_bits finite high_word low_word add sub mul div le eq
+unfolding sensor_register head_register mode_of shown_id parameter_register reading_register reading_of graded_reading worked_from value_of conductivity_value level_value calibrated_of resistivity_of height_of level_of_id pressure_of level_of parameter_of fresh_parameter fresh_parameters fresh_setup new_procedure calibrated_at measured_of quantity_of converted defaults_of near round of_bits to_bits finite high_word low_word add sub mul div le eq
 worked = record { resistivity = refl; overflow = refl; level = refl }

@@ -1,10 +1,11 @@
 -- What each register shows. Document 01, "Register map". Assumes nothing.
 use Rattle.std.specs.Prelude.{◌&&◌, cond, ℕ, ◌/◌, ◌%◌, eqb, ltb}
+use Rattle.std.specs.Option.{option_map_or}
 use Rattle.floats.specs.Floats.{high_word, low_word}
 use Rattle.coefficients.specs.Coefficients.{coefficients_of}
 use Rattle.coefficients.specs.declared.Coefficients.{Coefficients}
 use Rattle.methods.specs.declared.Points.{Points}
-use Rattle.parameters.specs.Parameters.{count_of, parameter_number, parameter_part, id_of, available_units}
+use Rattle.parameters.specs.Parameters.{count_of, parameter_number, parameter_part, quantity_of, id_of, available_units}
 use Rattle.sensors.specs.Sensors.{parameter_of}
 use Rattle.sensors.specs.declared.Setup.{Setup}
 use Rattle.sensors.specs.declared.Sensor.{Sensor}
@@ -37,7 +38,7 @@ point_register p o =
 
 -- the column "id"; of the level the id that is set
 unfoldable pub shown_id : ℕ → Setup → ℕ → ℕ
-shown_id sensor s k = cond (eqb sensor 3 && eqb k 2) s.parameters.level (id_of sensor k)
+shown_id sensor s k = cond (eqb sensor 3 && eqb k 2) s.parameters.level (option_map_or id_of (quantity_of sensor k) 0)
 
 -- "+0 value", "+4 quality": what the registers of a reading show
 unfoldable pub reading_register : Reading → ℕ → ℕ
@@ -49,7 +50,7 @@ parameter_register sensor s k part =
     cond (eqb part 2) (shown_id sensor s.setup k)
     (cond (eqb part 3) (parameter_of s.setup.parameters k).units
     (cond (eqb part 5) (high_word (parameter_of s.setup.parameters k).sentinel) (cond (eqb part 6) (low_word (parameter_of s.setup.parameters k).sentinel)
-    (cond (eqb part 7) (available_units (id_of sensor k))
+    (cond (eqb part 7) (option_map_or available_units (quantity_of sensor k) 0)
     (reading_register (reading_of sensor s k) part)))))
 
 -- "offsets: 0 sensor number; 1..2 last calibration; 3..4 next (W); 5 command ..; 6 method ..; 7 number of parameters"

@@ -7,6 +7,7 @@ ghost use Rattle.registers.specs.Registers.{mode_of, shown_coefficients, coeffic
 
 use coefficients::Coefficients;
 use methods::Points;
+use parameters::Quantity;
 use readings::Reading;
 use sensors::{Sensor, Setup};
 use words::Halves;
@@ -86,7 +87,7 @@ fn shown_id(sensor: u16, setup: &Setup, k: u16) -> u16
     if (sensor == 3) & (k == 2) {
         return setup.parameters.level;
     }
-    parameters::parameter_id(sensor, k)
+    Quantity::of(sensor, k).map_or(0, u16::from)
 }
 
 // The registers of a reading: 0 and 1 the value, 4 the quality.
@@ -113,7 +114,7 @@ fn parameter_register(sensor: u16, s: &Sensor, k: u16, part: u16) -> u16
         3 => p.units,
         5 => floats::high_word(p.sentinel),
         6 => floats::low_word(p.sentinel),
-        7 => parameters::available_units(parameters::parameter_id(sensor, k)),
+        7 => Quantity::of(sensor, k).map_or(0, Quantity::available_units),
         _ => reading_register(readings::reading_of(sensor, s, k), part),
     }
 }

@@ -11,7 +11,9 @@ use Rattle.floats.proofs.Bools.{choose}
 use Rattle.coefficients.specs.Coefficients.{all_finite, calibration_of, in_limits}
 use Rattle.coefficients.specs.declared.Coefficients.{Coefficients}
 use Rattle.coefficients.proofs.Bits.{CoefficientsFit}
-use Rattle.parameters.specs.Parameters.{id_of, units_allowed, level_allowed}
+use Rattle.std.specs.Option.{option_map_or}
+use Rattle.parameters.specs.declared.Quantity.{Quantity}
+use Rattle.parameters.specs.Parameters.{quantity_of, units_allowed, level_allowed}
 use Rattle.sensors.specs.Sensors.{units_valid, level_valid, valid_parameter, valid_parameters, valid_procedure, valid_setup, valid_sensor}
 use Rattle.sensors.specs.Changes.{active, with_procedure, with_active, with_parameters, with_trial, with_level, restarted, calibrated_at, with_parameter, sample, measured_of, measured_sensor}
 use Rattle.sensors.specs.declared.Parameter.{Parameter}
@@ -84,9 +86,13 @@ module _ (s : ℕ) (q : Parameters) (h : valid_parameters s q ≡ true) where
   with_parameter_valid (suc (suc (suc (suc k)))) p l m u = absurd (omega arith)
 
 -- listed units of a parameter are valid
-pub units_listed : (s k units : ℕ) → units_allowed (id_of s k) units ≡ true → units_valid s k units ≡ true
+pub units_listed : (s k units : ℕ) → option_map_or (λ q. units_allowed q units) (quantity_of s k) false ≡ true → units_valid s k units ≡ true
 unfolding units_valid
-units_listed s k units u = choose (λ t. t ≡ true) (eqb (id_of s k) 0) _ _ (λ e. refl) (λ e. u)
+units_listed s k units = of (quantity_of s k)
+  where
+    of : (o : Option Quantity) → option_map_or (λ q. units_allowed q units) o false ≡ true → option_map_or (λ q. units_allowed q units) o true ≡ true
+    of None u = refl
+    of (Some q) u = u
 
 -- a measurement of finite raws, of those that it reads, keeps a sensor valid
 pub measured_valid : (s : ℕ) (x : Sensor) (raws : Option Raws) → valid_sensor s x ≡ true

@@ -14,10 +14,14 @@ use Rattle.coefficients.specs.Coefficients.{all_finite, calibration_of, coeffici
 use Rattle.coefficients.specs.declared.Coefficients.{Coefficients}
 use Rattle.coefficients.specs.declared.Calibration.{Calibration}
 use Rattle.coefficients.proofs.Bits.{CoefficientsFit}
-use Rattle.coefficients.proofs.Limits.{limits_finite, sensor_cases, defaults_in_limits, defaults_fit}
+use Rattle.coefficients.proofs.Limits.{limits_finite, defaults_in_limits, defaults_fit}
 use Rattle.methods.proofs.Candidates.{PointsFit}
 use Rattle.entries.specs.Entries.{method_allowed, points_finite, valid_calibration}
-use Rattle.parameters.specs.Parameters.{id_of, default_units, units_allowed, level_allowed}
+use Rattle.std.specs.Prelude.{Option, Some, None}
+use Rattle.std.specs.Option.{option_map_or}
+use Rattle.parameters.specs.declared.Quantity.{Quantity}
+use Rattle.parameters.specs.declared.Quantity.TheVariants.{Temperature, Conductivity, Resistivity, Oxygen, Pressure, Level, Chlorophyll}
+use Rattle.parameters.specs.Parameters.{quantity_of, default_units, units_allowed, level_allowed}
 use Rattle.sensors.specs.Changes.{new_procedure}
 use Rattle.sensors.specs.Sensors.{parameter_of, fresh_parameter, fresh_parameters, fresh_setup, powered_setup, fresh_sensor, units_valid, level_valid, valid_parameter, valid_parameters, valid_procedure, valid_setup, valid_sensor}
 use Rattle.sensors.specs.declared.Parameter.{Parameter}
@@ -173,13 +177,19 @@ new_procedure_fits mode c f =
 -- ---- fresh, and after a power-up
 
 -- the default units are listed
-default_units_lem : (k : ℕ) → 1 ≤ k → k ≤ 3 → (s : ℕ) → 1 ≤ s → s ≤ 4 → units_valid s k (default_units (id_of s k)) ≡ true
-unfolding units_valid default_units id_of units_allowed
-default_units_lem (suc zero) l h = sensor_cases (λ s. units_valid s 1 (default_units (id_of s 1)) ≡ true) refl refl refl refl
-default_units_lem (suc (suc zero)) l h = sensor_cases (λ s. units_valid s 2 (default_units (id_of s 2)) ≡ true) refl refl refl refl
-default_units_lem (suc (suc (suc zero))) l h = sensor_cases (λ s. units_valid s 3 (default_units (id_of s 3)) ≡ true) refl refl refl refl
-default_units_lem zero l h = absurd (omega arith)
-default_units_lem (suc (suc (suc (suc k)))) l h = absurd (omega arith)
+default_units_lem : (s k : ℕ) → units_valid s k (option_map_or default_units (quantity_of s k) 0) ≡ true
+unfolding units_valid
+default_units_lem s k = of (quantity_of s k)
+  where
+    of : (o : Option Quantity) → option_map_or (λ q. units_allowed q (option_map_or default_units o 0)) o true ≡ true
+    of None = refl
+    of (Some Temperature) = refl
+    of (Some Conductivity) = refl
+    of (Some Resistivity) = refl
+    of (Some Oxygen) = refl
+    of (Some Pressure) = refl
+    of (Some Level) = refl
+    of (Some Chlorophyll) = refl
 
 fresh_level : (s : ℕ) → level_valid s 3 ≡ true
 unfolding level_valid level_allowed
@@ -191,9 +201,9 @@ fresh_parameters-valid s l h =
     valid-parameters s (fresh_parameters s)
     (record {
       level_valid_holds = fresh_level s;
-      valid1 = valid_parameter_lem s 1 _ plus_zero_finite (default_units_lem 1 (omega arith) (omega arith) s l h);
-      valid2 = valid_parameter_lem s 2 _ plus_zero_finite (default_units_lem 2 (omega arith) (omega arith) s l h);
-      valid3 = valid_parameter_lem s 3 _ plus_zero_finite (default_units_lem 3 (omega arith) (omega arith) s l h);
+      valid1 = valid_parameter_lem s 1 _ plus_zero_finite (default_units_lem s 1);
+      valid2 = valid_parameter_lem s 2 _ plus_zero_finite (default_units_lem s 2);
+      valid3 = valid_parameter_lem s 3 _ plus_zero_finite (default_units_lem s 3);
     })
 
 fresh_parameters_fit : (s : ℕ) → ParametersFit (fresh_parameters s)

@@ -1,11 +1,12 @@
 -- The state of one sensor, fresh, after a power-up, and valid. Document 01, "Sonde and calls" and "The volume" ("A sonde is sound when ..").
 -- Assumes nothing.
 use Rattle.std.specs.Prelude.{Bool, true, false, ◌&&◌, cond, ℕ, eqb}
+use Rattle.std.specs.Option.{option_map_or}
 use Rattle.floats.specs.Floats.{plus_zero, finite}
 use Rattle.coefficients.specs.Coefficients.{all_finite, calibration_of, coefficients_of, defaults_of}
 use Rattle.coefficients.specs.declared.Calibration.{Calibration}
 use Rattle.entries.specs.Entries.{method_allowed, points_finite, valid_calibration}
-use Rattle.parameters.specs.Parameters.{id_of, default_units, units_allowed, level_allowed}
+use Rattle.parameters.specs.Parameters.{quantity_of, default_units, units_allowed, level_allowed}
 use Rattle.sensors.specs.Changes.{parameters, new_procedure, active, setup, sample, sensor_of}
 use Rattle.sensors.specs.declared.Parameter.{Parameter}
 use Rattle.sensors.specs.declared.Parameters.{Parameters}
@@ -22,7 +23,7 @@ parameter_of q k = cond (eqb k 1) q.parameter1 (cond (eqb k 2) q.parameter2 q.pa
 
 -- "units and sentinels at their defaults"; a parameter that the sensor doesn't have has units 0
 unfoldable pub fresh_parameter : ℕ → ℕ → Parameter
-fresh_parameter sensor k = record { units = default_units (id_of sensor k); sentinel = plus_zero }
+fresh_parameter sensor k = record { units = option_map_or default_units (quantity_of sensor k) 0; sentinel = plus_zero }
 
 -- the level's id is the first listed, 3
 unfoldable pub fresh_parameters : ℕ → Parameters
@@ -47,7 +48,7 @@ fresh_sensor sensor = sensor_of (fresh_setup sensor) fresh_sample
 
 -- "every unit .. is in the map", of the parameters that the sensor has
 unfoldable pub units_valid : ℕ → ℕ → ℕ → Bool
-units_valid sensor k units = cond (eqb (id_of sensor k) 0) true (units_allowed (id_of sensor k) units)
+units_valid sensor k units = option_map_or (λ q. units_allowed q units) (quantity_of sensor k) true
 
 -- "and level id is in the map"
 unfoldable pub level_valid : ℕ → ℕ → Bool

@@ -9,6 +9,7 @@ ghost use Rattle.sensors.specs.Sensors.{parameter_of, fresh_parameter, fresh_par
 use coefficients::{Calibration, Coefficients};
 use entries::{calibration_valid, method_allowed, points_finite};
 use methods::Points;
+use parameters::Quantity;
 
 // A parameter's units and its sentinel, the value that is shown where there is no reading.
 #[repr(C)]
@@ -84,9 +85,8 @@ impl Parameter {
     pub fn fresh(sensor: u16, k: u16) -> Self
         ensures { result ≡ fresh_parameter sensor k }
     {
-        let id = parameters::parameter_id(sensor, k);
         Parameter {
-            units: parameters::default_units(id),
+            units: Quantity::of(sensor, k).map_or(0, Quantity::default_units),
             sentinel: 0.0,
         }
     }
@@ -318,11 +318,7 @@ impl Sensor {
 fn units_valid(sensor: u16, k: u16, units: u16) -> bool
     ensures { result ≡ units_valid sensor k units }
 {
-    let id = parameters::parameter_id(sensor, k);
-    if id == 0 {
-        return true;
-    }
-    parameters::units_allowed(id, units)
+    Quantity::of(sensor, k).is_none_or(|quantity| quantity.allows(units))
 }
 
 // The level's id is listed; of a sensor without a level it isn't looked at.

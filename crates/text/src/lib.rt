@@ -121,6 +121,7 @@ pub fn decode(line: &[u8], out: &mut [u8]) -> usize
 }
 
 // Reads until a buffer is full or the input ends, and gives how many bytes were read: they stand at its start, in order, and where they don't fill it nothing is left.
+// `read_exact` refuses an input that ends sooner, and `read_to_end` has no most.
 pub fn read_full<R: Read>(reader: &mut R, bytes: &mut [u8]) -> io::Result<usize>
     ensures prefix_len { IfOk result (λ n. IsPrefixLen n bytes.new) }
     ensures read { IfOk result (λ n. Consumes (R.remaining reader.old) (R.remaining reader.new) (take n bytes.new)) }

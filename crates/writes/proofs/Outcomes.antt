@@ -18,7 +18,8 @@ use Rattle.coefficients.specs.declared.Coefficients.{Coefficients}
 use Rattle.methods.specs.declared.Rejection.{Rejection}
 use Rattle.methods.specs.declared.Rejection.TheVariants.{OutsideLimits, NotFinite, Undefined}
 use Rattle.entries.specs.Entries.{method_allowed, entry_of}
-use Rattle.parameters.specs.Parameters.{parameter_number, parameter_part, id_of, units_allowed, level_allowed}
+use Rattle.parameters.specs.Parameters.{parameter_number, parameter_part, quantity_of, units_allowed, level_allowed}
+use Rattle.std.specs.Option.{option_map_or}
 use Rattle.fields.specs.Fields.{is_modal}
 use Rattle.fields.specs.declared.Field.{Field}
 use Rattle.sensors.specs.Sensors.{parameter_of}
@@ -62,7 +63,7 @@ pub data Change (sensor : ℕ) (s : Setup) (o high low : ℕ) : Setup → Type 0
   float : (x : Float) → FloatAt o → float_of high low ≡ Some x → Change sensor s o high low (with_float s o x)
   level : (30 ≤ o) × (o ≤ 53) → parameter_part o ≡ 2 → level_allowed high ≡ true
       → Change sensor s o high low (with_parameters s (with_level s.parameters high))
-  units : (k : ℕ) → (30 ≤ o) × (o ≤ 53) → k ≡ parameter_number o → parameter_part o ≡ 3 → units_allowed (id_of sensor k) high ≡ true
+  units : (k : ℕ) → (30 ≤ o) × (o ≤ 53) → k ≡ parameter_number o → parameter_part o ≡ 3 → option_map_or (λ q. units_allowed q high) (quantity_of sensor k) false ≡ true
       → Change sensor s o high low (with_parameters s (with_parameter s.parameters k (record { units = high; sentinel = (parameter_of s.parameters k).sentinel })))
 
 -- what a write comes to
@@ -107,7 +108,7 @@ module _ (sensor : ℕ) (s : Setup) (o high low : ℕ) (context : Context) where
       choose P (eqb (parameter_part o) 2) _ _
       (λ e. choose P (level_allowed high) _ _ (λ l. stored (level r (eqb-true (parameter_part o) 2 e) l)) (λ l. refused not_listed))
       (λ e. choose P (eqb (parameter_part o) 3) _ _
-      (λ e. choose P (units_allowed (id_of sensor (parameter_number o)) high) _ _ (λ l. stored (units _ r refl (eqb-true (parameter_part o) 3 e) l)) (λ l. refused not_listed))
+      (λ e. choose P (option_map_or (λ q. units_allowed q high) (quantity_of sensor (parameter_number o)) false) _ _ (λ l. stored (units _ r refl (eqb-true (parameter_part o) 3 e) l)) (λ l. refused not_listed))
       (λ e. choose P (eqb (parameter_part o) 5) _ _ (λ e. float_outcome (in_parameter r (eqb-true (parameter_part o) 5 e)))
       (λ e. refused not_listed)))
 

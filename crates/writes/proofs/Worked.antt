@@ -10,7 +10,7 @@ use Rattle.floats.specs.Floats.{near, near_minus, finite, float_of, is_plus_zero
 use Rattle.coefficients.specs.Coefficients.{all_finite, defaults_of, in_limits}
 use Rattle.methods.specs.Methods.{method_of, candidate_of, verdict_of, judged_of}
 use Rattle.entries.specs.Entries.{method_allowed}
-use Rattle.parameters.specs.Parameters.{id_of, default_units}
+use Rattle.parameters.specs.Parameters.{quantity_of}
 use Rattle.fields.specs.declared.Field.{Field}
 use Rattle.fields.specs.Fields.{owner_bit, owns, holds, field_at}
 use Rattle.std.specs.Prelude.{Option, Some, None}
@@ -67,5 +67,5 @@ pub record Worked : Type 0 where
 
 -- by computation
 pub worked : Worked
-unfolding write_to device_written write_of field_written float_written with_float point_at trial_at method_written commanded updated field_at holds owns owner_bit restarted calibrated_at new_procedure fresh_parameter fresh_parameters fresh_setup method_allowed id_of default_units method_of candidate_of verdict_of judged_of all_finite in_limits defaults_of near near_minus finite float_of is_plus_zero sub mul div round of_bits to_bits le eq
+unfolding write_to device_written write_of field_written float_written with_float point_at trial_at method_written commanded updated field_at holds owns owner_bit restarted calibrated_at new_procedure fresh_parameter fresh_parameters fresh_setup method_allowed quantity_of method_of candidate_of verdict_of judged_of all_finite in_limits defaults_of near near_minus finite float_of is_plus_zero sub mul div round of_bits to_bits le eq
 worked = record { one_point_holds = refl; full_and_bad = refl; method_mode_off = refl; technician = refl }

@@ -1,7 +1,7 @@
 -- What a write of one whole field that isn't read-only does to a sensor's setup, or to the device. One definition for the frame call and for the
 -- control book. Document 01, "Calibration", "Register map" and the codes of "What is sent back": 0x92, 0x84, 0x97, 0xC0 in that order; 0xC2 comes
 -- before them, at `target_in` of plans. Document 02, wish 3. Assumes nothing.
-use Rattle.std.specs.Prelude.{◌&&◌, not, cond, ℕ, eqb, leb, ltb, Float, Option, Some, None}
+use Rattle.std.specs.Prelude.{false, ◌&&◌, not, cond, ℕ, eqb, leb, ltb, Float, Option, Some, None}
 use Rattle.refusals.specs.declared.codes.Code.TheVariants.{SensorMode, WriteValue}
 use Rattle.floats.specs.Floats.{pattern, float_of}
 use Rattle.coefficients.specs.Coefficients.{coefficients}
@@ -9,7 +9,8 @@ use Rattle.coefficients.specs.declared.Coefficients.{Coefficients}
 use Rattle.methods.specs.Methods.{points}
 use Rattle.methods.specs.declared.Points.{Points}
 use Rattle.entries.specs.Entries.{method_allowed}
-use Rattle.parameters.specs.Parameters.{parameter_number, parameter_part, id_of, units_allowed, level_allowed}
+use Rattle.parameters.specs.Parameters.{parameter_number, parameter_part, quantity_of, units_allowed, level_allowed}
+use Rattle.std.specs.Option.{option_map_or}
 use Rattle.fields.specs.Fields.{is_modal}
 use Rattle.fields.specs.declared.Field.{Field}
 use Rattle.sensors.specs.Sensors.{parameter_of}
@@ -80,7 +81,7 @@ level_written s value =
 -- "+3 units (W)": one of the units that the table lists for this parameter
 unfoldable pub units_written : ℕ → Setup → ℕ → ℕ → Written
 units_written sensor s k value =
-    cond (units_allowed (id_of sensor k) value)
+    cond (option_map_or (λ q. units_allowed q value) (quantity_of sensor k) false)
     (Stored (with_parameters s (with_parameter s.parameters k (record { units = value; sentinel = (parameter_of s.parameters k).sentinel }))))
     (Refused WriteValue)
 

@@ -10,6 +10,7 @@ use commands::{Context, Written, command};
 use entries::method_allowed;
 use fields::{Access, Field};
 use methods::Points;
+use parameters::Quantity;
 use refusals::codes::Code;
 use sensors::{Parameters, Setup};
 use words::Halves;
@@ -117,15 +118,13 @@ fn write_level(mut s: Setup, value: u16) -> Written
 fn write_units(sensor: u16, mut s: Setup, k: u16, value: u16) -> Written
     ensures { result ≡ units_written sensor s k value }
 {
-    let id = parameters::parameter_id(sensor, k);
-    if !parameters::units_allowed(id, value) {
+    let quantity = Quantity::of(sensor, k);
+    if !quantity.is_some_and(|quantity| quantity.allows(value)) {
         return Written::Refused(Code::WriteValue);
     }
-    let q = s.parameters;
-    let mut p = q.parameter(k);
+    let mut p = s.parameters.parameter(k);
     p.units = value;
-    let parameters = q.with_parameter(k, p);
-    s.parameters = parameters;
+    s.parameters = s.parameters.with_parameter(k, p);
     Written::Stored(s)
 }
 
