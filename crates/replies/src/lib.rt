@@ -36,6 +36,16 @@ pub fn put_read(reply: &mut [u8], address: u8, words: &[u16]) -> usize
     3 + size
 }
 
+// Bytes from the start on, one by one: `copy_from_slice` calls memmove, which the library doesn't ask of its host.
+fn put_bytes(reply: &mut [u8], bytes: &[u8])
+    requires { length bytes.now ≤ length reply.old }
+    ensures { reply.new ≡ sets reply.old 0 bytes.now }
+{
+    for (i, byte) in bytes.iter().enumerate() {
+        reply[i] = *byte;
+    }
+}
+
 // To a write: the request, of function 16 its first six bytes (address, function, start, count).
 #[tactic(auto, using(crate::proofs::Stores::from_start), unfolding(crate::specs::Reply::written_body, words::specs::Overlay::overlay))]
 pub fn put_written(reply: &mut [u8], function: u8, body: &[u8]) -> usize
@@ -44,7 +54,7 @@ pub fn put_written(reply: &mut [u8], function: u8, body: &[u8]) -> usize
     ensures reply_after { reply.new ≡ overlay (written_body function body.now) reply.old }
 {
     let echoed = if function == 16 { &body[..6] } else { body };
-    reply[..echoed.len()].copy_from_slice(echoed);
+    put_bytes(reply, echoed);
     echoed.len()
 }
 
