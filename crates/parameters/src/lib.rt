@@ -112,7 +112,7 @@ impl Quantity {
     }
 }
 
-// The ids that the level may have.
+// The ids that the level may have. They are numbers here, as `Parameters` of `sensors` has them for programs in C.
 #[tactic(auto, unfolding(crate::specs::Parameters::level_allowed))]
 pub fn level_allowed(id: u16) -> bool
     ensures { result ≡ level_allowed id }

@@ -14,6 +14,7 @@ use service::Arrival;
 use state::Counters;
 
 // The values that the device's registers show.
+#[tactic(auto, unfolding(service::specs::Reads::device_of))]
 pub fn device(c: Counters, technician: u16, volume: &[u16], arrival: Arrival) -> Device
     ensures { result ≡ device_of c technician volume.now arrival }
 {
@@ -28,7 +29,7 @@ pub fn device(c: Counters, technician: u16, volume: &[u16], arrival: Arrival) ->
     }
 }
 
-// A register by its owner, 0 for the device or a sensor's number, and its offset.
+// A register by its owner, 0 for the device or a sensor's number, and its offset. An enum with a sensor in it cost each register 20 instructions.
 #[tactic(auto, unfolding(registers::specs::Registers::register_of))]
 #[inline(never)]
 fn register_of(owner: u16, device: &Device, sensor: &Sensor, offset: u16) -> u16

@@ -45,7 +45,7 @@ fn shown_coefficients(setup: &Setup) -> Coefficients
     trial
 }
 
-// Offsets 10 to 15.
+// Offsets 10 to 15, an arm for each as in the map: an index into the floats, worked out from the offset, is no plainer.
 #[tactic(auto, unfolding(crate::specs::Registers::coefficient_register))]
 fn coefficient_register(c: &Coefficients, offset: u16) -> u16
     ensures { result ≡ coefficient_register c.now offset }

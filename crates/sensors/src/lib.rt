@@ -1,4 +1,5 @@
-// The state of one sensor: what frames write and a calibration decides, and what measurements write.
+// The state of one sensor: what frames write and a calibration decides, and what measurements write. A sensor is known by its number, 1 to 4:
+// registers, entries and programs in C have it so.
 
 #![tactic(auto)]
 
@@ -19,7 +20,8 @@ pub struct Parameter {
     pub sentinel: f32,
 }
 
-// The parameters of a sensor, and the id of the level. Those that the sensor doesn't have stay as when fresh.
+// The parameters of a sensor, and the id of the level. Those that the sensor doesn't have stay as when fresh. Three fields and no array:
+// include/sonde.h has them so.
 #[repr(C)]
 #[derive(Clone, Copy)]
 pub struct Parameters {

@@ -4,7 +4,7 @@
 
 use state::Sonde;
 
-// When and how a frame came: the clock, in whole seconds, and its framing, ASCII or RTU.
+// When and how a frame came: the clock, in whole seconds, and its framing, ASCII or RTU, by the flag that the call in C has.
 #[derive(Clone, Copy)]
 pub struct Arrival {
     pub clock: u32,
