@@ -15,7 +15,8 @@ pub struct Coefficients {
     pub coefficient3: f32,
 }
 
-// Coefficients with the time of their calibration. Document 01: figures in force with last calibration.
+// Coefficients with the time of their calibration. Document 01: figures in force with last calibration. The three stand here again, and not as
+// one field, since the struct is C's.
 #[repr(C)]
 #[derive(Clone, Copy)]
 pub struct Calibration {
@@ -59,7 +60,7 @@ impl Coefficients {
         floats::all_finite(self.values())
     }
 
-    // Equality in every bit.
+    // Equality in every bit, where a derived one would take the zeros for one.
     #[tactic(auto, using(floats::proofs::Bools::three), unfolding(crate::specs::Coefficients::same_coefficients))]
     pub fn same_bits(self, other: Coefficients) -> bool
         ensures { result ≡ same_coefficients self other }
@@ -108,7 +109,7 @@ fn within(low: f32, high: f32, x: f32) -> bool
     (low <= x) & (x <= high)
 }
 
-// The table of limits; a number that is no sensor has none.
+// The table of limits; a number that is no sensor has none. A match of numbers, since a sensor is a word of the volume and of C's structs.
 #[tactic(auto, unfolding(crate::specs::Coefficients::in_limits))]
 #[inline(never)]
 pub fn in_limits(sensor: u16, c: Coefficients) -> bool

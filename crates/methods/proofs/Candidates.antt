@@ -39,15 +39,15 @@ module _ (s : ℕ) (m : Method) (c : Coefficients) where
           → cond f (cond l (Ok d) (Err (OutsideLimits d))) (Err NotFinite) ≡ cond w (Ok c) (Err (OutsideLimits c)) → Judged s m c w
       limited true d true true k f l e = record { all_finite_holds = cc; limits = cc; made = cc }
       limited false d true false k f l e = record { all_finite_holds = cc; limits = cc; made = cc }
-      limited true d true false k f l e = let z : ◌≡◌ {A = ℕ} 0 1 = cc in absurd (omega arith)
-      limited false d true true k f l e = let z : ◌≡◌ {A = ℕ} 0 1 = cc in absurd (omega arith)
-      limited true d false l₀ k f l e = let z : ◌≡◌ {A = ℕ} 0 1 = cc in absurd (omega arith)
-      limited false d false l₀ k f l e = let z : ◌≡◌ {A = ℕ} 0 1 = cc in absurd (omega arith)
+      limited true d true false k f l e = cc
+      limited false d true true k f l e = cc
+      limited true d false l₀ k f l e = cc
+      limited false d false l₀ k f l e = cc
 
       of : (w : Bool) (k : Result Coefficients Undefined) → candidate_of m ≡ k → verdict_of s k ≡ cond w (Ok c) (Err (OutsideLimits c)) → Judged s m c w
       of w (Ok d) k e = limited w d (all_finite d) (in_limits s d) k refl refl e
-      of true (Err cause) k e = let z : ◌≡◌ {A = ℕ} 0 1 = cc in absurd (omega arith)
-      of false (Err cause) k e = let z : ◌≡◌ {A = ℕ} 0 1 = cc in absurd (omega arith)
+      of true (Err cause) k e = cc
+      of false (Err cause) k e = cc
 
   -- what is accepted is within the limits
   pub accepted : judged_of s m ≡ Ok c → Judged s m c true

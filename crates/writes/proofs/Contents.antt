@@ -120,7 +120,7 @@ module _ (sensor : ℕ) (s : Setup) (r : ℕ) (f : Field) (found : field_at r �
     where
       go : (b : Bool) → s.procedure.calibrating ≡ b → s.procedure.calibrating ≡ true
       go true q = q
-      go false q = let p : Refused SensorMode ≡ Stored t = rw (a, q) at e in let z : ◌≡◌ {A = ℕ} 0 1 = cc in absurd (omega arith)
+      go false q = let p : Refused SensorMode ≡ Stored t = rw (a, q) at e in cc
 
   -- by the cases of what was stored; the rules of the table give the field's own offset
   pub effect : Takes sensor s t f.offset high low

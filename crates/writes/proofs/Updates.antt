@@ -4,7 +4,6 @@ use mathlib.Core.Path.{◌≡◌, refl, sym, ap, subst, ◌∙◌}
 use mathlib.Core.Bool.{Bool, true, false, ◌&&◌, not, cond}
 use mathlib.Core.List.{List, []}
 use Prim.Native.Nat.{ℕ}
-use native.Mathlib.Omega.{arith}
 use lib.Dec.{eqb}
 use borrow.Author.Tests.{eqb-true}
 use Rattle.floats.proofs.Bools.{no, both, choose}
@@ -85,9 +84,9 @@ module _ (sensor : ℕ) (s : Setup) (f : Field) (high low : ℕ) (context : Cont
           subst (Update sensor s f high context t) q (subst (λ (x : Setup). Update sensor s f high context x e₀) p u)
 
       of : {w : Written} → Outcome sensor s f.offset high low context w → w ≡ Updated t e → Update sensor s f high context t e
-      of (refused h) w = let z : ◌≡◌ {A = ℕ} 0 1 = cc in absurd (omega arith)
-      of (failed c i u m j) w = let z : ◌≡◌ {A = ℕ} 0 1 = cc in absurd (omega arith)
-      of (stored h) w = let z : ◌≡◌ {A = ℕ} 0 1 = cc in absurd (omega arith)
+      of (refused h) w = cc
+      of (failed c i u m j) w = cc
+      of (stored h) w = cc
       of (update c i u m r j) w = at _ _ w (made c i u m r j)
 
 -- ---- no update is refused without a reason
