@@ -69,7 +69,7 @@ fn answer(
         Plan::BroadcastRead => counted(Event::Good, 0, technician),
         Plan::Refused(code) => counted(
             Event::Exception,
-            execution::refuse(reply, header, code),
+            execution::refuse(reply, header, u8::from(code)),
             technician,
         ),
         Plan::Reading { start, count } => counted(

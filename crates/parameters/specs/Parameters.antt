@@ -35,6 +35,15 @@ id_of Pressure = 2
 id_of Level = 3
 id_of Chlorophyll = 51
 
+-- the quantity that an id names
+unfoldable pub quantity_by : ℕ → Option Quantity
+quantity_by id =
+    cond (eqb id 1) (Some Temperature)
+    (cond (eqb id 9) (Some Conductivity)
+    (cond (eqb id 11) (Some Resistivity)
+    (cond (eqb id 20) (Some Oxygen)
+    (cond (eqb id 2) (Some Pressure) (cond (eqb id 3) (Some Level) (cond (eqb id 51) (Some Chlorophyll) None))))))
+
 -- the column "units": "Defaults are the first listed"
 abbrev pub default_units : Quantity → ℕ
 default_units Temperature = 1

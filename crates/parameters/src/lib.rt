@@ -2,8 +2,9 @@
 
 #![tactic(auto)]
 
-ghost use Rattle.std.specs.Prelude.{◌≡◌};
-ghost use Rattle.parameters.specs.Parameters.{count_of, quantity_of, id_of, default_units, units_allowed, available_units, level_allowed, converted};
+ghost use Rattle.std.specs.Prelude.{◌≡◌, false};
+ghost use Rattle.std.specs.Option.{option_map_or};
+ghost use Rattle.parameters.specs.Parameters.{count_of, quantity_of, quantity_by, id_of, default_units, units_allowed, available_units, level_allowed, converted};
 
 // The number of a sensor's parameters.
 #[tactic(auto, unfolding(crate::specs::Parameters::count_of))]
@@ -66,6 +67,23 @@ impl Quantity {
         }
     }
 
+    // The quantity that an id names.
+    #[tactic(auto, unfolding(crate::specs::Parameters::quantity_by))]
+    pub fn by_id(id: u16) -> Option<Self>
+        ensures { result ≡ quantity_by id }
+    {
+        match id {
+            1 => Some(Quantity::Temperature),
+            9 => Some(Quantity::Conductivity),
+            11 => Some(Quantity::Resistivity),
+            20 => Some(Quantity::Oxygen),
+            2 => Some(Quantity::Pressure),
+            3 => Some(Quantity::Level),
+            51 => Some(Quantity::Chlorophyll),
+            _ => None,
+        }
+    }
+
     // The units when fresh.
     pub fn default_units(self) -> u16
         ensures { result ≡ default_units self }
@@ -110,6 +128,27 @@ impl Quantity {
             Quantity::Chlorophyll => 0x0020,
         }
     }
+}
+
+// The units that a parameter of this id has when fresh; 0 for an id that names no quantity.
+pub fn default_units(id: u16) -> u16
+    ensures { result ≡ option_map_or default_units (quantity_by id) 0 }
+{
+    Quantity::by_id(id).map_or(0, |quantity| quantity.default_units())
+}
+
+// Whether the table lists these units for the id.
+pub fn units_allowed(id: u16, units: u16) -> bool
+    ensures { result ≡ option_map_or (λ quantity. units_allowed quantity units) (quantity_by id) false }
+{
+    Quantity::by_id(id).is_some_and(|quantity| quantity.allows(units))
+}
+
+// The word that lists the units of the id.
+pub fn available_units(id: u16) -> u16
+    ensures { result ≡ option_map_or available_units (quantity_by id) 0 }
+{
+    Quantity::by_id(id).map_or(0, |quantity| quantity.available_units())
 }
 
 // The ids that the level may have. They are numbers here, as `Parameters` of `sensors` has them for programs in C.

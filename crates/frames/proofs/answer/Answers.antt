@@ -30,7 +30,9 @@ returns-in-BroadcastRead c = simp (c.counted-in-BroadcastRead.ensures, c.in-Broa
 pub returns-in-Refused : goal.returns-in-Refused
 unfolding device_of
 returns-in-Refused c =
-    simp (c.counted-in-Refused.ensures, c.refuse.ensures.value, ← c.refuse.ensures.reply_after, c.in-Refused.is) record { value = refl; reply_after = refl; volume_after = refl }
+    let e = rw c.from.ensures at c.refuse.ensures.value in
+    let b = rw c.from.ensures at c.refuse.ensures.reply_after in
+    simp (c.counted-in-Refused.ensures, e, ← b, c.in-Refused.is) record { value = refl; reply_after = refl; volume_after = refl }
 
 pub returns-in-Reading : goal.returns-in-Reading
 unfolding device_of
