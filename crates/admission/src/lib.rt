@@ -7,6 +7,7 @@ ghost use Rattle.admission.specs.Steps.{admitted, owner_of, judged_of};
 
 use modbus::Header;
 use plans::Plan;
+use ports::Port;
 use refusals::numbers::Refusal;
 
 // What a frame asks for, with its header.
@@ -16,18 +17,20 @@ pub struct Judged {
     pub plan: Plan,
 }
 
-// Whether a frame of this framing with so many bytes of reply buffer is taken at all, by whether the sonde and its volume agree.
+// The port of a frame that is taken at all, by the port's number, the framing, the bytes of its reply buffer and whether the sonde and its volume
+// agree.
 #[tactic(auto, unfolding(crate::specs::Steps::admitted))]
-pub fn admit(ascii: bool, room: usize, agreed: bool) -> Result<(), Refusal>
-    ensures { result ≡ admitted ascii room agreed }
+pub fn admit(number: u8, ascii: bool, room: usize, agreed: bool) -> Result<Port, Refusal>
+    ensures { result ≡ admitted number ascii room agreed }
 {
+    let port = Port::of(number).ok_or(Refusal::NoPort)?;
     if room < framing::room(ascii) {
         return Err(Refusal::ShortReply);
     }
     if !agreed {
         return Err(Refusal::Disagreement);
     }
-    Ok(())
+    Ok(port)
 }
 
 // The place of an owner's sensor; the device has none, and gets the first.
@@ -57,11 +60,11 @@ pub fn sensor_index(judged: Judged) -> usize
     }
 }
 
-// What the body that a frame carries asks of the sonde with this address; no bytes are a bad frame's.
+// What the body that a frame carries, which came by this port, asks of the sonde with this address; no bytes are a bad frame's.
 #[tactic(auto, unfolding(framing::specs::Steps::carried_by))]
 #[inline(never)]
-pub fn judge(own: u8, body: &[u8]) -> Judged
-    ensures { result ≡ judged_of own body.now }
+pub fn judge(own: u8, port: Port, body: &[u8]) -> Judged
+    ensures { result ≡ judged_of own port body.now }
 {
     let header = modbus::header_of(body);
     if body.len() == 0 {
@@ -72,6 +75,6 @@ pub fn judge(own: u8, body: &[u8]) -> Judged
     }
     Judged {
         header,
-        plan: plans::plan_of(own, header, body),
+        plan: plans::plan_of(own, port, header, body),
     }
 }

@@ -10,7 +10,7 @@ use lib.ListN.{length}
 use borrow.Author.Tests.{ltb-true, ltb-false}
 use Rattle.std.specs.Prelude.{Option}
 use Rattle.refusals.specs.declared.codes.Code.{Code}
-use Rattle.framing.specs.Framing.{carried_in, body_of}
+use Rattle.framing.specs.Framing.{body_of}
 use Rattle.entries.specs.Entries.{valid_entry}
 use Rattle.entries.specs.declared.Entry.{Entry}
 use Rattle.entries.proofs.Entries.{entry_fits}
@@ -28,7 +28,7 @@ use Rattle.plans.proofs.Plans.{Facts}
 use Rattle.sensors.specs.declared.Setup.{Setup}
 use Rattle.state.specs.Sonde.{sensor_at, setup_at, address_valid}
 use Rattle.service.specs.Reads.{device_in}
-use Rattle.service.specs.Frame.{plan_for, entries_by, frame_of, cut_of}
+use Rattle.service.specs.Frame.{entries_by, frame_of, cut_of, plan_to, carried, port_in}
 use Rattle.service.specs.declared.Arrival.{Arrival}
 use Rattle.service.proofs.Owners.{device_write, sensor_write}
 use Rattle.service.proofs.Parts.{frame_facts}
@@ -93,10 +93,10 @@ module _ {x : State} {b : Model} (h : Invariant x b) where
     old-leaves l = go (eqb (frame_of x.sonde frame reply x.volume a).number 0)
       where
         p : Plan
-        p = plan_for x.sonde.address (carried_in a.ascii frame)
+        p = plan_to x.sonde.address frame a
 
         go : (d : Bool) → Leaves b.journal (salvage_of (cond d (appends_of n x.volume (entries_by x.sonde x.volume a p)) x.volume))
-        go true = fit_leaves n l (plan_fit a (body_of (carried_in a.ascii frame)) p (frame_facts x.sonde.address (carried_in a.ascii frame)))
+        go true = fit_leaves n l (plan_fit a (body_of (carried frame a)) p (frame_facts x.sonde.address (port_in a) (carried frame a)))
         go false = kept_leaves
 
     -- so the sonde that was lost, beside it, would keep the invariant

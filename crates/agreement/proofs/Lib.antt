@@ -5,3 +5,4 @@ pub mod Writes
 pub mod Frames
 pub mod Cuts
 pub mod Theorem
+pub mod Ports

@@ -3,7 +3,6 @@
 -- calibration is a frame that counts good, own address or 0, that writes 0xE001 to a command register and meets no refusal below, whether or
 -- not a reply is sent." Assumes nothing.
 use Rattle.std.specs.Prelude.{cond, List, [], ◌∷◌, ◌++◌, ℕ, eqb, ltb, length}
-use Rattle.framing.specs.Framing.{carried_in, room_in}
 use Rattle.entries.specs.declared.Entry.{Entry}
 use Rattle.journal.specs.Words.{capacity_of}
 use Rattle.commands.specs.Commands.{context, accepted_update}
@@ -13,7 +12,7 @@ use Rattle.plans.specs.declared.Plan.TheVariants.{Bad, Foreign, BroadcastRead, R
 use Rattle.state.specs.Sonde.{sensor_at, setup_at}
 use Rattle.state.specs.declared.Sonde.{Sonde}
 use Rattle.service.specs.Calls.{begin_of}
-use Rattle.service.specs.Frame.{plan_for, is_update}
+use Rattle.service.specs.Frame.{arrival_number, plan_to, is_update}
 use Rattle.service.specs.declared.Arrival.{Arrival}
 use Rattle.agreement.specs.Runs.{Call, State, after}
 use Rattle.agreement.specs.Runs.Call.{Frame, Measure, PowerUp, Begin, Cut}
@@ -33,12 +32,13 @@ accepted_in d c (Writing o f v) = cond (is_update o (sensor_at d o) f v) (accept
 abbrev pub context_after : List Entry → State → Arrival → Context
 context_after es x a = context a.clock (ltb (length es) (capacity_of (length x.volume))) x.sonde.technician
 
--- with those of a frame. Number 3 refuses it by its reply buffer's length; number 4 isn't asked for, since no call gives it. Document 02, wish 1: "An
--- ASCII update is an accepted calibration like any other"
+-- with those of a frame. Numbers 9 and 3 refuse it by its port and its reply buffer's length; number 4 isn't asked for, since no call gives it. Document
+-- 02, wish 1: "An ASCII update is an accepted calibration like any other", and so is one by radio
 unfoldable pub noted_in : List Entry → State → List ℕ → List ℕ → Arrival → List Entry
 noted_in es x frame reply a =
-    cond (ltb (length reply) (room_in a.ascii)) es
-    (es ++ accepted_in x.sonde (context_after es x a) (plan_for x.sonde.address (carried_in a.ascii frame)))
+    cond (eqb (arrival_number a (length reply)) 0)
+    (es ++ accepted_in x.sonde (context_after es x a) (plan_to x.sonde.address frame a))
+    es
 
 -- the accepted calibrations since the last begin, one call later. A begin that isn't refused starts anew. Document 02, wish 6: "the cut update is an
 -- accepted calibration exactly when the count is new", by the last of 27 stores

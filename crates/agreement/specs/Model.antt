@@ -1,7 +1,6 @@
 -- The control book: document 01's third book, which is fed the calls' arguments and neither the sonde nor any volume's words. Document 01,
 -- "Control book". Assumes nothing.
-use Rattle.std.specs.Prelude.{cond, List, [], ◌∷◌, ◌++◌, ℕ, ◌-◌, ltb, length, get_or, set}
-use Rattle.framing.specs.Framing.{carried_in, room_in}
+use Rattle.std.specs.Prelude.{cond, List, [], ◌∷◌, ◌++◌, ℕ, ◌-◌, ltb, length, get_or, set, eqb}
 use Rattle.modbus.specs.declared.Value.{Value}
 use Rattle.entries.specs.declared.Entry.{Entry}
 use Rattle.fields.specs.declared.Field.{Field}
@@ -16,7 +15,7 @@ use Rattle.commands.specs.declared.Written.{Written}
 use Rattle.plans.specs.declared.Plan.{Plan}
 use Rattle.plans.specs.declared.Plan.TheVariants.{Bad, Foreign, BroadcastRead, Refused, Reading, Writing}
 use Rattle.state.specs.Sonde.{no_sensor, address_valid}
-use Rattle.service.specs.Frame.{plan_for, written_by}
+use Rattle.service.specs.Frame.{arrival_number, plan_to, written_by}
 use Rattle.service.specs.declared.Arrival.{Arrival}
 
 -- "It keeps the address; every value that frames write, trial figures, method and points among them; each sensor's mode, figures in force and
@@ -111,9 +110,10 @@ model_planned b a (Refused code) = b
 model_planned b a (Reading start count) = b
 model_planned b a (Writing o f v) = kept b o (write_in b a o f v)
 
--- of the reply buffer the length alone: number 3 refuses, by the framing. "Number 4 isn't tried". Frames of either framing are judged alike
+-- of the reply buffer the length alone: number 9 refuses by the port, number 3 by the framing. "Number 4 isn't tried". Frames of either framing and by
+-- either port are judged alike, but for what the port carries
 unfoldable pub model_frame : Model → List ℕ → ℕ → Arrival → Model
-model_frame b frame room a = cond (ltb room (room_in a.ascii)) b (model_planned b a (plan_for b.address (carried_in a.ascii frame)))
+model_frame b frame room a = cond (eqb (arrival_number a room) 0) (model_planned b a (plan_to b.address frame a)) b
 
 -- ---- a cut
 

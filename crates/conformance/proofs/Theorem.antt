@@ -1,6 +1,7 @@
 -- All of document 01's starred cases hold, and those of document 02's wishes, by computation on the definitions. Assumes nothing.
 use mathlib.Core.Path.{refl}
 use lib.Ieee.{of_bits, to_bits, sub, mul, div, le}
+use Rattle.ports.specs.Ports.{port_of, port_by}
 use Rattle.words.specs.Bytes.{bytes_of}
 use Rattle.words.specs.Mask.{masked_of}
 use Rattle.rtu.specs.Crc.{crc_bit, crc_bits, crc_byte, crc_from, crc_of}
@@ -41,12 +42,12 @@ use Rattle.page.specs.Print.{printed_on, print_of}
 use Rattle.service.specs.Agrees.{openings, same_calibrations, journal_agrees, agrees}
 use Rattle.service.specs.Calls.{begin_of, power_up_of}
 use Rattle.service.specs.Reads.{device_of, register_at, reading_body}
-use Rattle.service.specs.Frame.{sent, write_body, written_by, sonde_after, carried_out, answer_of, left, frame_of, cut_of}
-use Rattle.conformance.specs.Cases.{Cases, worked, told, begun_with, begin_told, asked, next, next_at, next_ascii, frame_told, in_mode, ten_at_eight, failed, calibrated, one_point, print_told, example_page, salvaged_at, salvage_told}
+use Rattle.service.specs.Frame.{arrival_number, sent, write_body, written_by, sonde_after, carried_out, answer_of, left, frame_of, cut_of}
+use Rattle.conformance.specs.Cases.{Cases, worked, told, begun_with, begin_told, asked, next, next_by, next_at, next_ascii, next_radio, next_radio_ascii, frame_told, counts_told, in_mode, ten_at_eight, failed, calibrated, one_point, print_told, example_page, salvaged_at, salvage_told, updated_by, turned_away, frame_of_length}
 
 pub cases : Cases
 unfolding crc_bit crc_bits crc_byte crc_from crc_of checksum_of framed body_of is_good overlay
-    sum_of lrc_of hex_digit value_of digits hex_of spelt ascii_framed chars_of decoded_bytes ascii_body enclosed checked ascii_good carried_in framed_in room_in
+    sum_of lrc_of hex_digit value_of digits hex_of spelt ascii_framed chars_of decoded_bytes ascii_body enclosed checked ascii_good port_of port_by carried_in framed_in room_in
     bytes_of read_of write_one_of write_many_of write_mask_of request_of masked_of read_body written_body marked_of exception_body
     of_bits to_bits sub mul div le near near_minus finite float_of high_word low_word same_bits is_plus_zero
     all_finite same_coefficients same_calibration defaults_of in_limits method_of candidate_of verdict_of judged_of
@@ -57,9 +58,10 @@ unfolding crc_bit crc_bits crc_byte crc_from crc_of checksum_of framed body_of i
     mode_of shown_coefficients coefficient_register head_register sensor_register device_register register_of updated commanded
     method_written point_at with_float float_written field_written write_of device_written write_to target_of read_plan write_plan plan_of
     fresh_counters incremented fresh_sonde powered_sonde replayed sensor_at setup_at with_sensor with_setup with_technician counted_by address_valid valid_sonde
-    openings same_calibrations journal_agrees agrees begin_of power_up_of device_of register_at reading_body sent write_body written_by sonde_after carried_out answer_of reply_of left frame_of cut_of on firsts lasts relinked salvage_of
+    openings same_calibrations journal_agrees agrees begin_of power_up_of device_of register_at reading_body arrival_number sent write_body written_by sonde_after carried_out answer_of reply_of left frame_of cut_of on firsts lasts relinked salvage_of
     journal_of last last_or cells number hex behind spaced characters columns_of line_of lines_of page_of printed_on print_of
-    worked told begun_with begin_told asked next next_at next_ascii frame_told in_mode ten_at_eight failed calibrated one_point print_told example_page salvaged_at salvage_told
+    worked told begun_with begin_told asked next next_by next_at next_ascii next_radio next_radio_ascii frame_told counts_told in_mode ten_at_eight failed calibrated one_point print_told
+    example_page salvaged_at salvage_told updated_by turned_away frame_of_length
 cases =
     record {
       crc_of_digits = refl;
@@ -106,4 +108,22 @@ cases =
       cut_at_last = refl;
       cut_at_count = refl;
       cut_beyond = refl;
+      port_zero = refl;
+      port_three = refl;
+      port_three_short = refl;
+      radio_short = refl;
+      radio_thirty = refl;
+      radio_under_thirty = refl;
+      serial_thirty = refl;
+      radio_for_all = refl;
+      radio_for_all_counted = refl;
+      radio_updates = refl;
+      radio_updates_alike = refl;
+      radio_ascii = refl;
+      radio_ascii_counted = refl;
+      radio_longest = refl;
+      radio_longest_counted = refl;
+      radio_longer = refl;
+      radio_longer_counted = refl;
+      serial_longer = refl;
     }

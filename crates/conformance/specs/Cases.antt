@@ -1,9 +1,10 @@
 -- Document 01's starred cases, "Entries to test by", in its order, then cases of document 02's wishes, as statements about the definitions that the
 -- contracts cite. Assumes nothing.
-use Rattle.std.specs.Prelude.{◌≡◌, true, false, List, [], ◌∷◌, ◌++◌, ℕ, get_or, take, drop, replicate, Float, Result, Ok, Err}
+use Rattle.std.specs.Prelude.{◌≡◌, true, false, List, [], ◌∷◌, ◌++◌, ℕ, ◌-◌, get_or, take, drop, replicate, Float, Result, Ok, Err}
 use Rattle.std.specs.Float.{binary32}
 use Rattle.std.specs.Float.Ieee.{of_bits, to_bits}
 use Rattle.rtu.specs.Crc.{crc_of}
+use Rattle.rtu.specs.Frame.{framed}
 use Rattle.floats.specs.Floats.{near, plus_zero}
 use Rattle.methods.specs.Methods.{candidate_of, judged_of, code_of}
 use Rattle.coefficients.specs.Coefficients.{coefficients_of}
@@ -17,7 +18,8 @@ use Rattle.columns.specs.Text.{characters}
 use Rattle.page.specs.Print.{Printed, print_of}
 use Rattle.service.specs.Calls.{Begun, begin_of, power_up_of}
 use Rattle.recovery.specs.Salvage.{Salvaged, salvage_of}
-use Rattle.service.specs.Frame.{Outcome, arrival, frame_of, cut_of}
+use Rattle.service.specs.Frame.{Outcome, arrival, outcome, refused_by, frame_of, cut_of}
+use Rattle.service.specs.declared.Arrival.{Arrival}
 
 -- the bits of coefficients
 abbrev pub bits : Coefficients → List ℕ
@@ -45,24 +47,39 @@ begun_with words = begin_of (fresh_sonde 1) (replicate words 0)
 unfoldable pub begin_told : Begun → List ℕ
 begin_told b = b.number ∷ get_or b.volume 1 0 ∷ []
 
--- a frame at clock 7 for a sonde and its volume, and one more for what it leaves
+-- a frame at clock 7 on the serial port for a sonde and its volume, and one more for what it leaves
 unfoldable pub asked : Sonde → List ℕ → List ℕ → Outcome
-asked d volume frame = frame_of d frame (replicate 256 0) volume (arrival 7 false)
+asked d volume frame = frame_of d frame (replicate 256 0) volume (arrival 7 false 1)
 
 unfoldable pub next : Outcome → List ℕ → Outcome
 next o frame = asked o.sonde o.volume frame
 
--- the same at another clock
-unfoldable pub next_at : ℕ → Outcome → List ℕ → Outcome
-next_at clock o frame = frame_of o.sonde frame (replicate 256 0) o.volume (arrival clock false)
+-- one that came otherwise, with a reply buffer of so many bytes
+unfoldable pub next_by : Arrival → ℕ → Outcome → List ℕ → Outcome
+next_by a room o frame = frame_of o.sonde frame (replicate room 0) o.volume a
 
--- the same in ASCII
+-- at another clock
+unfoldable pub next_at : ℕ → Outcome → List ℕ → Outcome
+next_at clock = next_by (arrival clock false 1) 256
+
+-- in ASCII
 unfoldable pub next_ascii : Outcome → List ℕ → Outcome
-next_ascii o frame = frame_of o.sonde frame (replicate 513 0) o.volume (arrival 7 true)
+next_ascii = next_by (arrival 7 true 1) 513
+
+-- by radio, and by radio in ASCII
+unfoldable pub next_radio : Outcome → List ℕ → Outcome
+next_radio = next_by (arrival 7 false 2) 256
+
+unfoldable pub next_radio_ascii : Outcome → List ℕ → Outcome
+next_radio_ascii = next_by (arrival 7 true 2) 513
 
 -- what a frame tells: its number, the entries in use, then the reply
 unfoldable pub frame_told : Outcome → List ℕ
 frame_told o = o.number ∷ get_or o.volume 2 0 ∷ take o.size o.reply
+
+-- how many frames of a sonde were good, bad and refused by a code
+unfoldable pub counts_told : Outcome → List ℕ
+counts_told o = o.sonde.counters.good ∷ o.sonde.counters.bad ∷ o.sonde.counters.exceptions ∷ []
 
 -- to register 105, the command of sensor 1: mode on, update, and the mask with A 0 and B 0xE001
 abbrev pub mode_on : List ℕ
@@ -126,7 +143,7 @@ in_mode = asked (fresh_sonde 1) (begun_with 88).volume mode_on
 
 -- the salvage after an update of sensor 1 that was cut behind so many stores
 unfoldable pub salvaged_at : ℕ → Salvaged
-salvaged_at n = salvage_of (cut_of in_mode.sonde update (replicate 256 0) in_mode.volume (arrival 7 false) n)
+salvaged_at n = salvage_of (cut_of in_mode.sonde update (replicate 256 0) in_mode.volume (arrival 7 false 1) n)
 
 -- what a salvage tells: its number, the words that it changed, then words 2..8: the entries in use, each chain's first, sensor 1's last
 unfoldable pub salvage_told : Salvaged → List ℕ
@@ -189,6 +206,37 @@ example_page =
     ++ characters "   0 3 -     0          0 00000000 00000000 00000000\n"
     ++ characters "   0 4 -     0          0 00000000 3F800000 00000000\n"
     ++ characters "   1 1 1     7       1000 00000000 3FA00000 00000000\n"
+
+-- the update by a port's number, with a reply buffer of so many bytes, and what its call leaves where a number turns it away: sonde, reply and volume as
+-- they were
+unfoldable pub updated_by : ℕ → ℕ → Outcome
+updated_by port room = next_by (arrival 7 false port) room in_mode update
+
+unfoldable pub turned_away : ℕ → ℕ → Outcome
+turned_away number room = outcome (refused_by number in_mode.sonde) (replicate room 0) in_mode.volume
+
+-- reads of absent registers, from 10 on: 30; 29; 30 at address 0; the exceptions 2 and 3 to them
+abbrev pub absent_thirty : List ℕ
+absent_thirty = 0x01 ∷ 0x03 ∷ 0x00 ∷ 0x0A ∷ 0x00 ∷ 0x1E ∷ 0xE5 ∷ 0xC0 ∷ []
+
+abbrev pub absent_under_thirty : List ℕ
+absent_under_thirty = 0x01 ∷ 0x03 ∷ 0x00 ∷ 0x0A ∷ 0x00 ∷ 0x1D ∷ 0xA5 ∷ 0xC1 ∷ []
+
+abbrev pub absent_for_all : List ℕ
+absent_for_all = 0x00 ∷ 0x03 ∷ 0x00 ∷ 0x0A ∷ 0x00 ∷ 0x1E ∷ 0xE4 ∷ 0x11 ∷ []
+
+abbrev pub absent_read : List ℕ
+absent_read = 0x01 ∷ 0x83 ∷ 0x02 ∷ 0xC0 ∷ 0xF1 ∷ []
+
+abbrev pub too_many_read : List ℕ
+too_many_read = 0x01 ∷ 0x83 ∷ 0x03 ∷ 0x01 ∷ 0x31 ∷ []
+
+-- a frame of so many bytes, with its checksum, of function 8, which the sonde hasn't; the exception 1 to it
+unfoldable pub frame_of_length : ℕ → List ℕ
+frame_of_length n = framed (0x01 ∷ 0x08 ∷ replicate (n - 4) 0)
+
+abbrev pub no_function : List ℕ
+no_function = 0x01 ∷ 0x88 ∷ 0x01 ∷ 0x87 ∷ 0xC0 ∷ []
 
 pub record Cases : Type 0 where
   -- "CRC of "123456789" is 0x4B37"
@@ -261,3 +309,27 @@ pub record Cases : Type 0 where
   pub cut_at_count : salvage_told (salvaged_at 27) ≡ 0 ∷ 0 ∷ 1 ∷ 0 ∷ 1 ∷ 0 ∷ 0 ∷ 0 ∷ 1 ∷ []
   -- "8, .. a fault that no choice of those words makes sound": 88 words of 0
   pub cut_beyond : salvage_told (salvage_of (replicate 88 0)) ≡ 8 ∷ 0 ∷ 0 ∷ 0 ∷ 0 ∷ 0 ∷ 0 ∷ 0 ∷ 0 ∷ []
+  -- document 02, wish 7: "9, a port other than 1 or 2, tried before number 3"; sonde and volume stay as they were
+  pub port_zero : updated_by 0 256 ≡ turned_away 9 256
+  pub port_three : updated_by 3 256 ≡ turned_away 9 256
+  pub port_three_short : updated_by 3 255 ≡ turned_away 9 255
+  pub radio_short : updated_by 2 255 ≡ turned_away 3 255
+  -- "a radio read of more than 29 registers is code 3", before the code 2 of absent ones, which a shorter one and a serial one get
+  pub radio_thirty : frame_told (next_radio in_mode absent_thirty) ≡ 0 ∷ 0 ∷ too_many_read
+  pub radio_under_thirty : frame_told (next_radio in_mode absent_under_thirty) ≡ 0 ∷ 0 ∷ absent_read
+  pub serial_thirty : frame_told (next in_mode absent_thirty) ≡ 0 ∷ 0 ∷ absent_read
+  -- a read at address 0 counts good and nothing else, whatever its length
+  pub radio_for_all : frame_told (next_radio in_mode absent_for_all) ≡ 0 ∷ 0 ∷ []
+  pub radio_for_all_counted : counts_told (next_radio in_mode absent_for_all) ≡ 2 ∷ 0 ∷ 0 ∷ []
+  -- "For RTU frames books and figures don't depend on the port": an update by radio is accepted, with the sonde and the volume of a serial one
+  pub radio_updates : frame_told (next_radio in_mode update) ≡ 0 ∷ 1 ∷ update
+  pub radio_updates_alike : next_radio in_mode update ≡ next in_mode update
+  -- "Radio frames are RTU of at most 64 bytes, longer ones and ASCII ones count bad without reply"
+  pub radio_ascii : frame_told (next_radio_ascii in_mode update_ascii) ≡ 0 ∷ 0 ∷ []
+  pub radio_ascii_counted : counts_told (next_radio_ascii in_mode update_ascii) ≡ 1 ∷ 1 ∷ 0 ∷ []
+  pub radio_longest : frame_told (next_radio in_mode (frame_of_length 64)) ≡ 0 ∷ 0 ∷ no_function
+  pub radio_longest_counted : counts_told (next_radio in_mode (frame_of_length 64)) ≡ 2 ∷ 0 ∷ 1 ∷ []
+  pub radio_longer : frame_told (next_radio in_mode (frame_of_length 65)) ≡ 0 ∷ 0 ∷ []
+  pub radio_longer_counted : counts_told (next_radio in_mode (frame_of_length 65)) ≡ 1 ∷ 1 ∷ 0 ∷ []
+  -- "Serial keeps 256"
+  pub serial_longer : frame_told (next in_mode (frame_of_length 65)) ≡ 0 ∷ 0 ∷ no_function

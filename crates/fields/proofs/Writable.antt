@@ -4,7 +4,7 @@ use mathlib.Core.Bool.{Bool, true, ◌&&◌, ◌||◌, not}
 use Prim.Native.Nat.{ℕ, ◌/◌, ◌≤◌}
 use native.Mathlib.Omega.{arith}
 use lib.Dec.{eqb, leb}
-use borrow.Author.Tests.{eqb-true}
+use borrow.Author.Tests.{eqb-true, leb-true}
 use Rattle.fields.specs.declared.Access.TheVariants.{ReadOnly, Modal}
 use Rattle.fields.specs.declared.Field.{Field}
 use Rattle.std.specs.Prelude.{Some}
@@ -30,6 +30,18 @@ device_written_lem r f e a z =
     let o : owns f 0 ≡ true = rw z at (found_covered r f e).owned in
     let t = other (is_read_only f.access) (not (owns f 0) || eqb f.offset 9) (not_read_only f.access a) (found_test written every_written r f e) in
     eqb-true f.offset 9 (given (owns f 0) (eqb f.offset 9) t o)
+
+short : Field → Bool
+short f = leb f.words 2
+
+every_short : every short fields ≡ true
+unfolding short
+every_short = refl
+
+-- no field has more than two words
+pub two_words : (r : ℕ) (f : Field) → field_at r ≡ Some f → f.words ≤ 2
+unfolding short
+two_words r f e = leb-true f.words 2 (found_test short every_short r f e)
 
 -- the method's, a coefficient's or a point's offset
 abbrev pub calibration_offset : ℕ → Bool

@@ -2,6 +2,7 @@
 -- names. No reader has to believe these definitions: `steps_left` (frames/proofs/Steps) says that they leave what the definition of the frame call does.
 -- Assumes nothing.
 use Rattle.std.specs.Prelude.{Bool, List, [], Option, Some, None, ℕ, length}
+use Rattle.ports.specs.declared.Port.{Port}
 use Rattle.refusals.specs.Codes.{byte_of}
 use Rattle.framing.specs.Framing.{Carried, body_of}
 use Rattle.modbus.specs.Request.{header_of}
@@ -29,9 +30,9 @@ step_of own e s h body w (Refused code) = step Exception (refusal_body h (byte_o
 step_of own e s h body w (Reading start count) = step Good (owned_body own e s start count) None e.technician w
 step_of own e s h body w (Writing owner f v) = write_step h body w e s (written_by owner e s f v)
 
--- of what a frame carries
-unfoldable pub step_for : ℕ → Device → Sensor → Carried → List ℕ → Step
-step_for own e s x w = step_of own e s (header_of (body_of x)) (body_of x) w (plan_for own x)
+-- of what a frame carries by a port
+unfoldable pub step_for : ℕ → Port → Device → Sensor → Carried → List ℕ → Step
+step_for own port e s x w = step_of own e s (header_of (body_of x)) (body_of x) w (plan_for own port x)
 
 -- what the code hands on of it; the rest is in the lent slices
 abbrev pub served_of : Bool → Step → Served

@@ -10,6 +10,7 @@ ghost use Rattle.framing.specs.Steps.{carried_by};
 ghost use Rattle.plans.proofs.Plans.{Facts};
 ghost use Rattle.replies.specs.Reply.{reply_of};
 ghost use Rattle.service.specs.Reads.{device_of};
+ghost use Rattle.service.specs.Frame.{port_in};
 ghost use Rattle.admission.specs.Steps.{judged_of};
 ghost use Rattle.execution.specs.Steps.{effect_of};
 ghost use Rattle.frames.specs.Steps.{step_of, step_for, served_of};
@@ -116,11 +117,11 @@ pub fn serve(
     sensor: &Sensor,
     arrival: Arrival,
 ) -> Served
-    requires { (room_in arrival.ascii ≤ length reply.old) × (length body.now ≤ 254) × (judged ≡ judged_of own body.now) }
-    ensures value { result ≡ served_of arrival.ascii (step_for own (device_of counters technician volume.old arrival) sensor.now (carried_by body.now) volume.old) }
-    ensures reply_after { reply.new ≡ overlay (reply_of arrival.ascii (step_for own (device_of counters technician volume.old arrival) sensor.now (carried_by body.now) volume.old).body) reply.old }
-    ensures volume_after { volume.new ≡ (step_for own (device_of counters technician volume.old arrival) sensor.now (carried_by body.now) volume.old).volume }
-    ensures bytes { Bytes (step_for own (device_of counters technician volume.old arrival) sensor.now (carried_by body.now) volume.old).body }
+    requires { (room_in arrival.ascii ≤ length reply.old) × (length body.now ≤ 254) × (judged ≡ judged_of own (port_in arrival) body.now) }
+    ensures value { result ≡ served_of arrival.ascii (step_for own (port_in arrival) (device_of counters technician volume.old arrival) sensor.now (carried_by body.now) volume.old) }
+    ensures reply_after { reply.new ≡ overlay (reply_of arrival.ascii (step_for own (port_in arrival) (device_of counters technician volume.old arrival) sensor.now (carried_by body.now) volume.old).body) reply.old }
+    ensures volume_after { volume.new ≡ (step_for own (port_in arrival) (device_of counters technician volume.old arrival) sensor.now (carried_by body.now) volume.old).volume }
+    ensures bytes { Bytes (step_for own (port_in arrival) (device_of counters technician volume.old arrival) sensor.now (carried_by body.now) volume.old).body }
 {
     let plan = judged.plan;
     let effect = answer(

@@ -1,5 +1,5 @@
 -- What a body asks for. Document 01, "Frames" and "What is sent back", codes 1 and 3: lengths as Modbus has them, counts 1..125 (read)
--- and 1..123 (16). Which registers exist is another layer's matter. Assumes nothing.
+-- and 1..123 (16). The longest read is the port's (`limits`: ports/specs/Ports). Which registers exist is another layer's matter. Assumes nothing.
 use Rattle.std.specs.Prelude.{cond, List, ℕ, Result, Ok, Err, ◌+◌, ◌*◌, ltb, eqb, length, get_or}
 use Rattle.refusals.specs.declared.codes.Code.{Code}
 use Rattle.refusals.specs.declared.codes.Code.TheVariants.{IllegalFunction, IllegalDataValue}
@@ -23,9 +23,9 @@ header_of body = record { address = address_of body; function = function_of body
 abbrev counted : ℕ → ℕ → Result Request Code → Result Request Code
 counted most n r = cond (ltb n 1) (Err IllegalDataValue) (cond (ltb most n) (Err IllegalDataValue) r)
 
--- function 3: address, 3, start, count
-unfoldable pub read_of : List ℕ → Result Request Code
-read_of s = cond (eqb (length s) 6) (counted 125 (word_at s 4) (Ok (Read (word_at s 2) (word_at s 4)))) (Err IllegalDataValue)
+-- function 3: address, 3, start, count, at most so many
+unfoldable pub read_of : ℕ → List ℕ → Result Request Code
+read_of registers s = cond (eqb (length s) 6) (counted registers (word_at s 4) (Ok (Read (word_at s 2) (word_at s 4)))) (Err IllegalDataValue)
 
 -- function 6: address, 6, register, value
 unfoldable pub write_one_of : List ℕ → Result Request Code
@@ -49,10 +49,10 @@ write_many_of s =
 unfoldable pub write_mask_of : List ℕ → Result Request Code
 write_mask_of s = cond (eqb (length s) 8) (Ok (Write (word_at s 2) 1 (Mask (word_at s 4) (word_at s 6)))) (Err IllegalDataValue)
 
--- "Functions 3, 6, 16, 22"; code 1 before any look at the length
-unfoldable pub request_of : ℕ → List ℕ → Result Request Code
-request_of function s =
-    cond (eqb function 3) (read_of s)
+-- "Functions 3, 6, 16, 22"; code 1 before any look at the length. A read names so many registers at most
+unfoldable pub request_of : ℕ → ℕ → List ℕ → Result Request Code
+request_of registers function s =
+    cond (eqb function 3) (read_of registers s)
     (cond (eqb function 6) (write_one_of s)
     (cond (eqb function 16) (write_many_of s)
     (cond (eqb function 22) (write_mask_of s)

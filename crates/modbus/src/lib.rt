@@ -53,13 +53,14 @@ pub fn header_of(body: &[u8]) -> Header
     }
 }
 
-// What a body with this function asks for. Another function is refused; so is one whose length, byte count or count is wrong.
+// What a body with this function asks for, a read of at most so many registers. Another function is refused; so is one whose length, byte count or
+// count is wrong.
 #[tactic(auto, unfolding(crate::specs::Request::request_of))]
-pub fn decode_request(function: u8, body: &[u8]) -> Result<Request, Code>
-    ensures { result ≡ request_of function body.now }
+pub fn decode_request(registers: u16, function: u8, body: &[u8]) -> Result<Request, Code>
+    ensures { result ≡ request_of registers function body.now }
 {
     match function {
-        3 => decode_read(body),
+        3 => decode_read(registers, body),
         6 => decode_write_one(body),
         16 => decode_write_many(body),
         22 => decode_write_mask(body),
@@ -69,15 +70,15 @@ pub fn decode_request(function: u8, body: &[u8]) -> Result<Request, Code>
 
 // Function 3: start and count.
 #[tactic(auto, unfolding(crate::specs::Request::read_of))]
-fn decode_read(body: &[u8]) -> Result<Request, Code>
-    ensures { result ≡ read_of body.now }
+fn decode_read(registers: u16, body: &[u8]) -> Result<Request, Code>
+    ensures { result ≡ read_of registers body.now }
 {
     if body.len() != 6 {
         return Err(Code::IllegalDataValue);
     }
     let start = words::word_at(body, 2);
     let count = words::word_at(body, 4);
-    if !(1..=125).contains(&count) {
+    if !(1..=registers).contains(&count) {
         return Err(Code::IllegalDataValue);
     }
     Ok(Request::Read { start, count })

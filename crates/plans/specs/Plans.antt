@@ -1,7 +1,9 @@
--- What a body asks of a sonde, judged on its address and on the map of registers alone. One definition for the frame call and for the
+-- What a body asks of a sonde, judged on its address, its port and the map of registers alone. One definition for the frame call and for the
 -- control book. Document 01, "Frames" and the codes of "What is sent back" that need no value: 1, 3, 2, 0x80, 0xC2, in that order.
 -- Assumes nothing.
 use Rattle.std.specs.Prelude.{cond, List, Option, Some, None, Result, Ok, Err, ℕ, ◌/◌, eqb}
+use Rattle.ports.specs.Ports.{limits}
+use Rattle.ports.specs.declared.Port.{Port}
 use Rattle.refusals.specs.declared.codes.Code.{Code}
 use Rattle.refusals.specs.declared.codes.Code.TheVariants.{FieldMismatch, ReadOnly}
 use Rattle.modbus.specs.Request.{request_of}
@@ -49,8 +51,12 @@ abbrev pub plan_in : Result Plan Code → Plan
 plan_in (Ok p) = p
 plan_in (Err code) = Refused code
 
+-- what the body of such a function asks; document 02, wish 7: "a radio read of more than 29 registers is code 3", which stands before code 2
+abbrev pub judged_on : Port → Header → List ℕ → Plan
+judged_on port h body = plan_in (request_plan (request_of (limits port).registers h.function body))
+
 -- "Address 0 .. writes are carried out, function 3 counts good and nothing else happens", "another's address counts nothing"
-unfoldable pub plan_of : ℕ → Header → List ℕ → Plan
-plan_of own h body =
-    cond (eqb h.address 0) (cond (eqb h.function 3) BroadcastRead (plan_in (request_plan (request_of h.function body))))
-    (cond (eqb h.address own) (plan_in (request_plan (request_of h.function body))) Foreign)
+unfoldable pub plan_of : ℕ → Port → Header → List ℕ → Plan
+plan_of own port h body =
+    cond (eqb h.address 0) (cond (eqb h.function 3) BroadcastRead (judged_on port h body))
+    (cond (eqb h.address own) (judged_on port h body) Foreign)

@@ -1,14 +1,16 @@
-// What a body asks of a sonde: its address, then the map of registers. Everything here is judged before any value is looked at, so the
-// control book and the frame call share it.
+// What a body asks of a sonde: its address, what its port carries, then the map of registers. Everything here is judged before any value is looked
+// at, so the control book and the frame call share it.
 
 #![tactic(auto)]
 
 ghost use Rattle.std.specs.Prelude.{◌≡◌};
+ghost use Rattle.ports.specs.Ports.{limits};
 ghost use Rattle.modbus.specs.Request.{request_of};
 ghost use Rattle.plans.specs.Plans.{target_of, read_plan, write_plan, request_plan, plan_of};
 
 use fields::{Access, Field};
 use modbus::{Header, Request, Value};
+use ports::Port;
 use refusals::codes::Code;
 
 #[derive(Clone, Copy)]
@@ -66,11 +68,11 @@ fn plan_write(start: u16, count: u16, value: Value) -> Result<Plan, Code>
     })
 }
 
-// A request, judged on the map.
-fn plan_request(function: u8, body: &[u8]) -> Result<Plan, Code>
-    ensures { result ≡ request_plan (request_of function body.now) }
+// A request, judged on its port and the map.
+fn plan_request(port: Port, function: u8, body: &[u8]) -> Result<Plan, Code>
+    ensures { result ≡ request_plan (request_of (limits port).registers function body.now) }
 {
-    match modbus::decode_request(function, body)? {
+    match modbus::decode_request(port.limits().registers, function, body)? {
         Request::Read { start, count } => plan_read(start, count),
         Request::Write {
             start,
@@ -80,10 +82,10 @@ fn plan_request(function: u8, body: &[u8]) -> Result<Plan, Code>
     }
 }
 
-// What a body with this header asks of the sonde with this address.
+// What a body with this header, which came by this port, asks of the sonde with this address.
 #[tactic(auto, unfolding(crate::specs::Plans::plan_of))]
-pub fn plan_of(own: u8, header: Header, body: &[u8]) -> Plan
-    ensures { result ≡ plan_of own header body.now }
+pub fn plan_of(own: u8, port: Port, header: Header, body: &[u8]) -> Plan
+    ensures { result ≡ plan_of own port header body.now }
 {
     let broadcast = header.address == 0;
     if broadcast & (header.function == 3) {
@@ -92,7 +94,7 @@ pub fn plan_of(own: u8, header: Header, body: &[u8]) -> Plan
     if !broadcast & (header.address != own) {
         return Plan::Foreign;
     }
-    match plan_request(header.function, body) {
+    match plan_request(port, header.function, body) {
         Ok(plan) => plan,
         Err(code) => Plan::Refused(code),
     }

@@ -21,6 +21,8 @@ pub enum Refusal {
     ShortPage,
     // A volume that no choice of its chain words makes valid.
     BeyondSalvage,
+    // A port that is neither of the two.
+    NoPort,
 }
 
 // Success; a frame that is refused by a code gives it too.
@@ -39,6 +41,7 @@ impl From<Refusal> for u8 {
             Refusal::RawNotFinite => 6,
             Refusal::ShortPage => 7,
             Refusal::BeyondSalvage => 8,
+            Refusal::NoPort => 9,
         }
     }
 }

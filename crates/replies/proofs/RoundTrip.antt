@@ -7,9 +7,10 @@ use native.Mathlib.Omega.{arith}
 use borrow.Author.Tests.{ne_eqb}
 use lib.ListN.{length, get_or}
 use Rattle.words.specs.Bytes.{bytes_of, word_at, Bytes}
+use Rattle.ports.specs.declared.Port.{Port}
 use Rattle.framing.specs.Framing.{carried_in}
 use Rattle.framing.specs.Framing.Carried.{Body}
-use Rattle.framing.proofs.RoundTrip.{frame_carries}
+use Rattle.framing.proofs.RoundTrip.{Passes, frame_carries}
 use Rattle.replies.specs.Reply.{written_body, reply_of}
 
 -- no bytes, or as many as a frame carries
@@ -17,10 +18,11 @@ pub record Sized (b : List ℕ) : Type 0 where
   pub least : (length b ≡ 0 → ⊥) → 2 ≤ length b
   pub most : length b ≤ 254
 
--- a reply carries its body
-pub reply_carries : (ascii : Bool) (b : List ℕ) → Bytes b → Sized b → (length b ≡ 0 → ⊥) → carried_in ascii (reply_of ascii b) ≡ Body b
+-- a reply carries its body, by a port that carries such a frame
+pub reply_carries : (port : Port) (ascii : Bool) (b : List ℕ) → Bytes b → Sized b → Passes port ascii b → (length b ≡ 0 → ⊥)
+    → carried_in port ascii (reply_of ascii b) ≡ Body b
 unfolding reply_of
-reply_carries ascii b h s n = rw (ne_eqb (length b) 0 n) (frame_carries ascii b h (s.least n) s.most)
+reply_carries port ascii b h s p n = rw (ne_eqb (length b) 0 n) (frame_carries port ascii b h (s.least n) s.most p)
 
 -- the reply to function 16: address, function, start and count, high bytes first
 pub start_and_count : (body : List ℕ) → Bytes body → 6 ≤ length body

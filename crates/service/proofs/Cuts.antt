@@ -3,9 +3,9 @@ use mathlib.Core.Path.{◌≡◌, refl, sym, ◌∙◌}
 use mathlib.Core.Bool.{Bool, true, false}
 use mathlib.Core.List.{List}
 use Prim.Native.Nat.{ℕ, ◌≤◌}
-use lib.Dec.{ltb}
+use lib.Dec.{eqb}
 use lib.ListN.{length}
-use Rattle.framing.specs.Framing.{carried_in, body_of, room_in}
+use Rattle.framing.specs.Framing.{body_of}
 use Rattle.modbus.specs.Request.{header_of}
 use Rattle.modbus.specs.declared.Header.{Header}
 use Rattle.journal.specs.Stores.{appends_of}
@@ -14,7 +14,7 @@ use Rattle.plans.specs.declared.Plan.{Plan}
 use Rattle.plans.specs.declared.Plan.TheVariants.{Bad, Foreign, BroadcastRead, Refused, Reading, Writing}
 use Rattle.state.specs.declared.Sonde.{Sonde}
 use Rattle.service.specs.Agrees.{agrees}
-use Rattle.service.specs.Frame.{plan_for, carried_out, planned, entries_by, answer_of, left, frame_of, cut_of}
+use Rattle.service.specs.Frame.{carried_out, planned, entries_by, answer_of, left, frame_of, cut_of, arrival_number, plan_to, carried}
 use Rattle.service.specs.declared.Arrival.{Arrival}
 
 -- what is asked for leaves the volume with its entries appended
@@ -30,11 +30,11 @@ planned_appends d h body w a (Writing o f v) = refl
 -- a frame that isn't cut, or behind its last store
 pub cut_whole : (d : Sonde) (frame reply w : List ℕ) (a : Arrival) (n : ℕ) → 27 ≤ n → cut_of d frame reply w a n ≡ (frame_of d frame reply w a).volume
 unfolding cut_of frame_of left answer_of
-cut_whole d frame reply w a n l = go (ltb (length reply) (room_in a.ascii)) (agrees d w) refl refl
+cut_whole d frame reply w a n l = go (eqb (arrival_number a (length reply)) 0) (agrees d w) refl refl
   where
-    go : (short fit : Bool) → ltb (length reply) (room_in a.ascii) ≡ short → agrees d w ≡ fit → cut_of d frame reply w a n ≡ (frame_of d frame reply w a).volume
-    go true fit p q = rw p
-    go false false p q = rw (p, q)
-    go false true p q =
-        let y = plan_for d.address (carried_in a.ascii frame) in
-        rw (p, q) (appends_more n w (entries_by d w a y) l ∙ sym (planned_appends d (header_of (body_of (carried_in a.ascii frame))) (body_of (carried_in a.ascii frame)) w a y))
+    go : (taken fit : Bool) → eqb (arrival_number a (length reply)) 0 ≡ taken → agrees d w ≡ fit → cut_of d frame reply w a n ≡ (frame_of d frame reply w a).volume
+    go false fit p q = rw (p, p)
+    go true false p q = rw (p, q)
+    go true true p q =
+        let y = plan_to d.address frame a in
+        rw (p, q) (appends_more n w (entries_by d w a y) l ∙ sym (planned_appends d (header_of (body_of (carried frame a))) (body_of (carried frame a)) w a y))

@@ -1,16 +1,18 @@
 -- The same decoded request has the same effect in both framings. Assumes nothing.
-use mathlib.Core.Path.{◌≡◌, refl}
+use mathlib.Core.Path.{◌≡◌, refl, sym, ◌∙◌}
 use mathlib.Core.Bool.{Bool, true, false, cond}
 use mathlib.Core.List.{List, []}
 use Prim.Native.Nat.{ℕ, ◌≤◌}
-use lib.Dec.{ltb}
 use lib.ListN.{length}
 use borrow.Author.Tests.{le-ltb}
+use Rattle.ports.specs.Ports.{port_of, port_by}
+use Rattle.ports.specs.declared.Port.TheVariants.{Serial}
 use Rattle.refusals.specs.Codes.{byte_of}
 use Rattle.words.specs.Bytes.{Bytes}
 use Rattle.words.proofs.Stores.{overlay-start}
-use Rattle.framing.specs.Framing.{Carried, carried_in, body_of, room_in}
+use Rattle.framing.specs.Framing.{Carried, body_of, room_in}
 use Rattle.framing.proofs.Carried.{carried_most}
+use Rattle.framing.proofs.RoundTrip.{serial_passes}
 use Rattle.modbus.specs.Request.{header_of}
 use Rattle.modbus.specs.declared.Header.{Header}
 use Rattle.replies.specs.Reply.{reply_of}
@@ -22,7 +24,7 @@ use Rattle.plans.proofs.Plans.{Facts}
 use Rattle.state.specs.declared.Sonde.{Sonde}
 use Rattle.service.specs.Agrees.{agrees}
 use Rattle.service.specs.Reads.{device_of, device_in, register_at, shown_from, reading_body}
-use Rattle.service.specs.Frame.{Answer, write_at, carried_out, planned, plan_for, answer_of, answer_to, Outcome, outcome, refused_by, left, frame_of}
+use Rattle.service.specs.Frame.{Answer, write_at, carried_out, planned, plan_for, answer_of, answer_to, Outcome, outcome, refused_by, left, frame_of, carried, port_in, arrival_number, plan_to}
 use Rattle.service.specs.Framings.{SameEffect, OneEffect}
 use Rattle.service.specs.declared.Arrival.{Arrival}
 use Rattle.service.proofs.Bodies.{none_sized, refusal_sized, write_sized, read_sized}
@@ -43,11 +45,11 @@ planned_sized d h body w a (Reading start count) f l =
 planned_sized d h body w a (Writing s x v) f l = write_sized h body (code_of (write_at d w a s x v)) l f.long
 
 -- an answer's body is none, or fits a frame of either framing
-pub answer_sized : (d : Sonde) (ascii : Bool) (frame w : List ℕ) (a : Arrival) → Sized (answer_of d (carried_in ascii frame) w a).body
+pub answer_sized : (d : Sonde) (frame w : List ℕ) (a : Arrival) → Sized (answer_to d frame w a).body
 unfolding answer_of
-answer_sized d ascii frame w a =
-    let c = carried_in ascii frame in
-    planned_sized d (header_of (body_of c)) (body_of c) w a (plan_for d.address c) (frame_facts d.address c) (carried_most ascii frame)
+answer_sized d frame w a =
+    let c = carried frame a in
+    planned_sized d (header_of (body_of c)) (body_of c) w a (plan_to d.address frame a) (frame_facts d.address (port_in a) c) (carried_most (port_in a) a.ascii frame)
 
 -- ---- the answer doesn't ask for the framing
 
@@ -60,9 +62,9 @@ planned_same d h body w a b (Refused code) e = refl
 planned_same d h body w a b (Reading start count) e = rw e
 planned_same d h body w a b (Writing s f v) e = rw e
 
-answer_same : (d : Sonde) (c c' : Carried) (w : List ℕ) (a b : Arrival) → c ≡ c' → a.clock ≡ b.clock → answer_of d c w a ≡ answer_of d c' w b
+answer_same : (d : Sonde) (c c' : Carried) (w : List ℕ) (a b : Arrival) → c ≡ c' → a.clock ≡ b.clock → port_in a ≡ port_in b → answer_of d c w a ≡ answer_of d c' w b
 unfolding answer_of
-answer_same d c c' w a b e f = rw e (planned_same d (header_of (body_of c')) (body_of c') w a b (plan_for d.address c') f)
+answer_same d c c' w a b e f g = rw (e, g) (planned_same d (header_of (body_of c')) (body_of c') w a b (plan_for d.address (port_in b) c') f)
 
 -- ---- the fact
 
@@ -80,7 +82,10 @@ same_left bytes x p q reply reply' s h =
       body = x.body;
       first = first;
       second = second;
-      carries = λ g n. rw (first, second) (reply_carries p x.body (h g) s n, reply_carries q x.body (h g) s n);
+      carries = λ g n. rw (first, second) (
+        reply_carries Serial p x.body (h g) s (serial_passes p x.body s.most) n,
+        reply_carries Serial q x.body (h g) s (serial_passes q x.body s.most) n,
+      );
     }
 
 number_zero : (x : Answer) (p : Bool) (reply : List ℕ) → (left x p reply).number ≡ 0
@@ -94,13 +99,19 @@ unfolding reply_of
 same_refused bytes d w p q reply reply' n =
     record { number = refl; sonde = refl; volume = refl; body = []; first = refl; second = refl; carries = λ g z. absurd (z refl) }
 
+-- a frame that came by the serial port is judged by it, and isn't refused where the reply has its room
+serial_by : (a : Arrival) → a.port ≡ 1 → port_in a ≡ Serial
+unfolding port_by port_of
+serial_by a p = rw p
+
+serial_taken : (a : Arrival) (reply : List ℕ) → a.port ≡ 1 → room_in a.ascii ≤ length reply → arrival_number a (length reply) ≡ 0
+unfolding arrival_number port_of
+serial_taken a reply p l = rw (p, le-ltb (length reply) (room_in a.ascii) l)
+
 pub one_effect : OneEffect
 unfolding frame_of
-one_effect d w frame frame' reply reply' a b e f l m = rw (k, le-ltb (length reply') (room_in b.ascii) m) (go (agrees d w))
+one_effect d w frame frame' reply reply' a b pa pb e f l m = rw (serial_taken a reply pa l, serial_taken b reply' pb m) (go (agrees d w))
   where
-    k : ltb (length reply) (room_in a.ascii) ≡ false
-    k = le-ltb (length reply) (room_in a.ascii) l
-
     x : Answer
     x = answer_to d frame w a
 
@@ -111,6 +122,6 @@ one_effect d w frame frame' reply reply' a b e f l m = rw (k, le-ltb (length rep
         → SameEffect ((first fit).number ≡ 0 → Bytes x.body) a.ascii b.ascii (first fit)
         (cond fit (left (answer_to d frame' w b) b.ascii reply') (outcome (refused_by 4 d) reply' w))
     go true =
-        rw (← (answer_same d (carried_in a.ascii frame) (carried_in b.ascii frame') w a b e f))
-        (same_left _ x a.ascii b.ascii reply reply' (answer_sized d a.ascii frame w a) (λ g. g (number_zero x a.ascii reply)))
+        rw (← (answer_same d (carried frame a) (carried frame' b) w a b e f (serial_by a pa ∙ sym (serial_by b pb))))
+        (same_left _ x a.ascii b.ascii reply reply' (answer_sized d frame w a) (λ g. g (number_zero x a.ascii reply)))
     go false = same_refused _ d w a.ascii b.ascii reply reply' 4

@@ -10,12 +10,12 @@ use lib.Dec.{ltb}
 use lib.Ieee.{Float}
 use lib.ListN.{length, get_or, drop}
 use lib.Seq.{drop-append_seam, set-get_or}
-use Rattle.std.specs.Prelude.{Option, Some, None}
+use Rattle.std.specs.Prelude.{Option, Some, None, eqb}
 use Rattle.refusals.specs.Codes.{byte_if}
 use Rattle.refusals.specs.declared.codes.Code.{Code}
 use Rattle.floats.proofs.Bools.{choose}
 use Rattle.words.specs.Overlay.{overlay}
-use Rattle.framing.specs.Framing.{Carried, carried_in, body_of, room_in}
+use Rattle.framing.specs.Framing.{Carried, body_of}
 use Rattle.modbus.specs.Request.{header_of}
 use Rattle.modbus.specs.declared.Header.{Header}
 use Rattle.modbus.specs.declared.Value.{Value}
@@ -50,7 +50,7 @@ use Rattle.service.specs.Agrees.{openings, agrees}
 use Rattle.service.specs.Calls.{made, rejected, fresh_of, Begun, begun, begin_of, powered_by, power_up_of, raws_finite, measure_of, audit_of}
 use Rattle.replies.specs.Reply.{reply_of}
 use Rattle.service.specs.Reads.{device_in}
-use Rattle.service.specs.Frame.{first_word, second_word, answer, refusal_body, write_body, write_at, is_update, sonde_after, carried_out, planned, code_by, plan_for, answer_of, answer_to, Outcome, outcome, refused_by, left, frame_of, event_of}
+use Rattle.service.specs.Frame.{first_word, second_word, answer, refusal_body, write_body, write_at, is_update, sonde_after, carried_out, planned, code_by, answer_of, answer_to, Outcome, outcome, refused_by, left, frame_of, event_of, carried, arrival_number, plan_to}
 use Rattle.service.specs.Refusals.{refused_leaves}
 use Rattle.service.specs.declared.Arrival.{Arrival}
 use Rattle.service.specs.declared.SondeMade.{SondeMade}
@@ -115,7 +115,7 @@ frame_number : (d : Sonde) (frame reply w : List ℕ) (a : Arrival) → ((frame_
     → frame_of d frame reply w a ≡ outcome (refused_by (frame_of d frame reply w a).number d) reply w
 unfolding frame_of left
 frame_number d frame reply w a =
-    choose P (ltb (length reply) (room_in a.ascii)) _ _ (λ e h. refl) (λ e. choose P (agrees d w) _ _ (λ f h. absurd (h refl)) (λ f h. refl))
+    choose P (eqb (arrival_number a (length reply)) 0) _ _ (λ e. choose P (agrees d w) _ _ (λ f h. absurd (h refl)) (λ f h. refl)) (λ e h. refl)
   where
     P : Outcome → Type 0
     P o = (o.number ≡ 0 → ⊥) → o ≡ outcome (refused_by o.number d) reply w
@@ -271,18 +271,19 @@ pub record FrameKeeps (reply w : List ℕ) (o : Outcome) : Type 0 where
 pub frame_keeps : (d : Sonde) (frame reply w : List ℕ) (a : Arrival) → FrameKeeps reply w (frame_of d frame reply w a)
 unfolding frame_of left answer_of overlay
 frame_keeps d frame reply w a =
-    choose (FrameKeeps reply w) (ltb (length reply) (room_in a.ascii)) _ _ (λ e. refused 3)
+    choose (FrameKeeps reply w) (eqb (arrival_number a (length reply)) 0) _ _
     (λ e. choose (FrameKeeps reply w) (agrees d w) _ _ answered (λ f. refused 4))
+    (λ e. refused (arrival_number a (length reply)))
   where
     refused : (n : ℕ) → FrameKeeps reply w (outcome (refused_by n d) reply w)
     refused n = record { whole = λ e. refl; free = refl; past = refl }
 
     c : Carried
-    c = carried_in a.ascii frame
+    c = carried frame a
 
     answered : agrees d w ≡ true → FrameKeeps reply w (left (answer_to d frame w a) a.ascii reply)
     answered f =
         let v = (agrees_parts d w f).volume_valid in
-        let k = planned_volume w v a d (header_of (body_of c)) (body_of c) (plan_for d.address c) in
+        let k = planned_volume w v a d (header_of (body_of c)) (body_of c) (plan_to d.address frame a) in
         let bytes = reply_of a.ascii (answer_of d c w a).body in
         record { whole = k.whole; free = k.free; past = drop-append_seam bytes (drop (length bytes) reply) }

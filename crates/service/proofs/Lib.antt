@@ -7,3 +7,4 @@ pub mod Registers
 pub mod Refusals
 pub mod Technicians
 pub mod Cuts
+pub mod Ports

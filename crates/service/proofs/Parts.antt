@@ -5,6 +5,7 @@ use mathlib.Core.List.{List}
 use Prim.Native.Nat.{ℕ}
 use native.Mathlib.Omega.{arith}
 use Rattle.floats.proofs.Bools.{both}
+use Rattle.ports.specs.declared.Port.{Port}
 use Rattle.framing.specs.Framing.{Carried, body_of}
 use Rattle.framing.specs.Framing.Carried.{Bad, Body}
 use Rattle.modbus.specs.Request.{header_of}
@@ -46,6 +47,6 @@ agrees_parts d w h =
     record { sonde_valid = a.0; volume_valid = b.0; same = b.1 }
 
 -- whatever a frame asks for has the facts of its plan
-pub frame_facts : (own : ℕ) (c : Carried) → Facts (body_of c) (plan_for own c)
-frame_facts own Bad = tt
-frame_facts own (Body body) = plan_facts own (header_of body) body
+pub frame_facts : (own : ℕ) (port : Port) (c : Carried) → Facts (body_of c) (plan_for own port c)
+frame_facts own port Bad = tt
+frame_facts own port (Body body) = plan_facts own port (header_of body) body

@@ -8,9 +8,9 @@ use native.Mathlib.Omega.{arith}
 use lib.Dec.{eqb, ltb}
 use lib.ListN.{length, get_or, take, drop, get_or-eq_default}
 use lib.Seq.{drop-cons}
-use borrow.Author.Tests.{eqb-true, eqb-false, not-true, ltb-true, ltb-false, le-ltb, eq-eqb, ne_eqb}
+use borrow.Author.Tests.{eqb-true, eqb-false, not-true, ltb-true, ltb-false, eq-eqb, ne_eqb}
 use Rattle.words.proofs.Stores.{overlay-start}
-use Rattle.framing.specs.Framing.{Carried, carried_in, body_of, room_in}
+use Rattle.framing.specs.Framing.{Carried, body_of}
 use Rattle.modbus.specs.Request.{header_of}
 use Rattle.modbus.specs.declared.Value.{Value}
 use Rattle.replies.specs.Reply.{read_body, reply_of}
@@ -43,7 +43,7 @@ use Rattle.state.specs.declared.Event.TheVariants.{Exception}
 use Rattle.state.specs.declared.Sonde.{Sonde}
 use Rattle.service.specs.Agrees.{openings, journal_agrees, agrees}
 use Rattle.service.specs.Reads.{device_in, register_at, shown_from, reading_body}
-use Rattle.service.specs.Frame.{first_word, second_word, Answer, answer, refusal_body, write_body, write_at, is_update, sonde_after, carried_out, code_by, plan_for, answer_of, Outcome, left, frame_of}
+use Rattle.service.specs.Frame.{first_word, second_word, Answer, answer, refusal_body, write_body, write_at, is_update, sonde_after, carried_out, code_by, answer_of, Outcome, left, frame_of, plan_to, arrival_number, carried, port_in}
 use Rattle.service.specs.Framings.{sent_by}
 use Rattle.service.specs.Refusals.{refused_leaves, refused_with, FailedUpdate, coefficient_words, CandidateShown, FailedUpdatesShown, OtherRefusalsKeep}
 use Rattle.service.specs.declared.Arrival.{Arrival}
@@ -54,11 +54,11 @@ use Rattle.service.proofs.Parts.{valid_sensors, valid_sonde_lem, frame_facts}
 -- ---- reads
 
 -- what is sent in reply to a read
-read_sent : (d : Sonde) (frame reply w : List ℕ) (a : Arrival) (start n : ℕ) → agrees d w ≡ true → plan_for d.address (carried_in a.ascii frame) ≡ Reading start n
-    → room_in a.ascii ≤ length reply → sent_by (frame_of d frame reply w a) ≡ reply_of a.ascii (reading_body d w a start n)
+read_sent : (d : Sonde) (frame reply w : List ℕ) (a : Arrival) (start n : ℕ) → agrees d w ≡ true → plan_to d.address frame a ≡ Reading start n
+    → arrival_number a (length reply) ≡ 0 → sent_by (frame_of d frame reply w a) ≡ reply_of a.ascii (reading_body d w a start n)
 unfolding frame_of answer_of left
-read_sent d frame reply w a start n h p room =
-    rw (le-ltb (length reply) (room_in a.ascii) room, h, p) (overlay-start reply (reply_of a.ascii (reading_body d w a start n)) _ refl)
+read_sent d frame reply w a start n h p taken =
+    rw (taken, h, p) (overlay-start reply (reply_of a.ascii (reading_body d w a start n)) _ refl)
 
 -- registers that show the words of a list, read from the i-th on
 shown_words : (f : ℕ → ℕ) (words : List ℕ) (r i n : ℕ) → ((j : ℕ) → j < length words → f (r + j) ≡ get_or words j 0) → i + n ≤ length words
@@ -157,13 +157,13 @@ module _ (d : Sonde) (s : ℕ) (k : IsSensor s) (c : Coefficients) (mode : (setu
   address_after = refl
 
   -- so does a read of them
-  read_after : (w frame reply : List ℕ) (a : Arrival) (i n : ℕ) → agrees d' w ≡ true → plan_for d.address (carried_in a.ascii frame) ≡ Reading (100 * s + 10 + i) n → i + n ≤ 6
-      → room_in a.ascii ≤ length reply → sent_by (frame_of d' frame reply w a) ≡ reply_of a.ascii (read_body d.address (take n (drop i (coefficient_words c))))
+  read_after : (w frame reply : List ℕ) (a : Arrival) (i n : ℕ) → agrees d' w ≡ true → plan_to d.address frame a ≡ Reading (100 * s + 10 + i) n → i + n ≤ 6
+      → arrival_number a (length reply) ≡ 0 → sent_by (frame_of d' frame reply w a) ≡ reply_of a.ascii (read_body d.address (take n (drop i (coefficient_words c))))
   unfolding reading_body
-  read_after w frame reply a i n h p l room =
+  read_after w frame reply a i n h p l taken =
       let v = device_in d' w a in
       let words = shown_words (register_at d' v) (coefficient_words c) (100 * s + 10) i n (register_after v) l in
-      read_sent d' frame reply w a (100 * s + 10 + i) n h (ap (λ (own : ℕ). plan_for own (carried_in a.ascii frame)) address_after ∙ p) room
+      read_sent d' frame reply w a (100 * s + 10 + i) n h (ap (λ (own : ℕ). plan_to own frame a) address_after ∙ p) taken
       ∙ ap₂ (λ (own : ℕ) (x : List ℕ). reply_of a.ascii (read_body own x)) address_after words
 
 -- ---- the claim
@@ -182,19 +182,19 @@ write_fails d frame w a s c u =
     (update_fails s x.setup u.field (second_word u.value) (context_of (device_in d w a)) c (eqb-true u.field.offset 5 e.0) u.mode_on_holds
     (fails s (method_set x.setup) c u.candidate u.all_finite_holds u.outside))
 
-module _ (d : Sonde) (frame reply w : List ℕ) (a : Arrival) (s : ℕ) (c : Coefficients) (h : agrees d w ≡ true) (room : room_in a.ascii ≤ length reply)
+module _ (d : Sonde) (frame reply w : List ℕ) (a : Arrival) (s : ℕ) (c : Coefficients) (h : agrees d w ≡ true) (taken : arrival_number a (length reply) ≡ 0)
     (u : FailedUpdate d frame a s c) where
   abbrev o : Outcome
   o = refused_with frame reply w a 0x97 (with_setup d s (with_trial (setup_at d s) c))
 
   frame_leaves : frame_of d frame reply w a ≡ o
   unfolding frame_of answer_of carried_out sonde_after write_body with_technician with_setup with_sensor
-  frame_leaves = rw (le-ltb (length reply) (room_in a.ascii) room, h, u.asks, write_fails d frame w a s c u)
+  frame_leaves = rw (taken, h, u.asks, write_fails d frame w a s c u)
 
   sensor : IsSensor s
   unfolding is_update
   sensor =
-      let l = (rw u.asks at (frame_facts d.address (carried_in a.ascii frame))).located in
+      let l = (rw u.asks at (frame_facts d.address (port_in a) (carried frame a))).located in
       let n : s ≡ 0 → ⊥ = eqb-false s 0 (not-true (eqb s 0) (both (not (eqb s 0)) _ u.is_update_holds).0) in
       (omega arith, l.owner_most)
 
@@ -211,14 +211,14 @@ module _ (d : Sonde) (frame reply w : List ℕ) (a : Arrival) (s : ℕ) (c : Coe
       }
 
 pub failed_updates_shown : FailedUpdatesShown
-failed_updates_shown d frame reply w a s c h room u =
-    subst (CandidateShown d frame reply w a s c) (sym (frame_leaves d frame reply w a s c h room u)) (candidate_shown d frame reply w a s c h room u)
+failed_updates_shown d frame reply w a s c h taken u =
+    subst (CandidateShown d frame reply w a s c) (sym (frame_leaves d frame reply w a s c h taken u)) (candidate_shown d frame reply w a s c h taken u)
 
 -- ---- every other refusal
 
 module _ (d : Sonde) (frame : List ℕ) (a : Arrival) (none : (s : ℕ) (c : Coefficients) → FailedUpdate d frame a s c → ⊥) where
   -- a refused update that hasn't failed leaves its setup
-  update_keeps : (s : ℕ) (f : Field) (v : Value) → plan_for d.address (carried_in a.ascii frame) ≡ Writing s f v → is_update s (sensor_at d s) f v ≡ true
+  update_keeps : (s : ℕ) (f : Field) (v : Value) → plan_to d.address frame a ≡ Writing s f v → is_update s (sensor_at d s) f v ≡ true
       → refused_update s (setup_at d s) ≡ setup_at d s
   unfolding refused_update
   update_keeps s f v p u = choose (λ (x : Setup). x ≡ setup_at d s) (setup_at d s).procedure.calibrating _ _ (λ m. judged m (judged_of s (method_set (setup_at d s))) refl) (λ m. refl)
@@ -232,7 +232,7 @@ module _ (d : Sonde) (frame : List ℕ) (a : Arrival) (none : (s : ℕ) (c : Coe
       judged m (Err NotFinite) j = refl
       judged m (Err (Undefined cause)) j = refl
 
-  plan_leaves : (p : Plan) → plan_for d.address (carried_in a.ascii frame) ≡ p → refused_leaves d p ≡ d
+  plan_leaves : (p : Plan) → plan_to d.address frame a ≡ p → refused_leaves d p ≡ d
   plan_leaves Bad e = refl
   plan_leaves Foreign e = refl
   plan_leaves BroadcastRead e = refl
@@ -243,14 +243,14 @@ module _ (d : Sonde) (frame : List ℕ) (a : Arrival) (none : (s : ℕ) (c : Coe
 
 pub other_refusals_keep : OtherRefusalsKeep
 unfolding frame_of answer_of
-other_refusals_keep d frame reply w a h room n none =
-    rw (le-ltb (length reply) (room_in a.ascii) room, h)
+other_refusals_keep d frame reply w a h taken n none =
+    rw (taken, h)
     (ap (λ (x : Answer). left x a.ascii reply)
     (code_keeps d (header_of (body_of c)) (body_of c) w a p n
     ∙ ap (λ (x : Sonde). answer Exception (refusal_body (header_of (body_of c)) (code_by d w a p)) x w) (plan_leaves d frame a none p refl)))
   where
     c : Carried
-    c = carried_in a.ascii frame
+    c = carried frame a
 
     p : Plan
-    p = plan_for d.address c
+    p = plan_to d.address frame a

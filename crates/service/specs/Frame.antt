@@ -1,9 +1,11 @@
--- What a frame does: number, sonde, reply and volume as one function of what goes in. Document 01, "Frames", in its order: numbers 3 and 4;
--- bad; another's; a read at address 0; codes 1, 3, 2, 0x80 and 0xC2, which the plan has; then the field's write. Document 02, wish 1: a frame has
--- one of two framings, and what it carries is all that is judged. Assumes nothing.
+-- What a frame does: number, sonde, reply and volume as one function of what goes in. Document 01, "Frames", in its order: numbers 9 (document 02, wish
+-- 7), 3 and 4; bad; another's; a read at address 0; codes 1, 3, 2, 0x80 and 0xC2, which the plan has; then the field's write. Document 02, wish 1: a
+-- frame has one of two framings, and what it carries is all that is judged; wish 7: by the limits of its port. Assumes nothing.
 use Rattle.std.specs.Prelude.{Bool, ◌&&◌, not, cond, List, [], Option, Some, None, ℕ, eqb, ltb, length}
 use Rattle.refusals.specs.Codes.{byte_of, byte_if}
 use Rattle.refusals.specs.declared.codes.Code.{Code}
+use Rattle.ports.specs.Ports.{port_of, port_by}
+use Rattle.ports.specs.declared.Port.{Port}
 use Rattle.words.specs.Mask.{masked_of}
 use Rattle.words.specs.Overlay.{overlay}
 use Rattle.framing.specs.Framing.{Carried, carried_in, body_of, room_in}
@@ -34,12 +36,38 @@ use Rattle.service.specs.Reads.{device_in, reading_body}
 use Rattle.service.specs.declared.Arrival.{Arrival}
 use Rattle.service.specs.declared.SondeFrame.{SondeFrame}
 
+-- ---- how a frame came
+
+abbrev pub arrival : ℕ → Bool → ℕ → Arrival
+arrival clock ascii port = record { clock = clock; ascii = ascii; port = port }
+
+-- the port that it is judged by
+abbrev pub port_in : Arrival → Port
+port_in a = port_by a.port
+
+-- what a frame carries, by its framing and its port
+abbrev pub carried : List ℕ → Arrival → Carried
+carried frame a = carried_in (port_in a) a.ascii frame
+
+-- the number that refuses a frame for how it came or for its reply buffer's length, before any look at the frame, the sonde or the volume; 0 for none.
+-- Document 02, wish 7: "9, a port other than 1 or 2, tried before number 3"; then 3, by the room that the framing's replies need
+abbrev pub room_number : Arrival → ℕ → Option Port → ℕ
+room_number a room None = 9
+room_number a room (Some port) = cond (ltb room (room_in a.ascii)) 3 0
+
+unfoldable pub arrival_number : Arrival → ℕ → ℕ
+arrival_number a room = room_number a room (port_of a.port)
+
 -- ---- what a frame asks for
 
--- a bad frame "counts bad"; of any other its body is judged, in whichever framing it came
-abbrev pub plan_for : ℕ → Carried → Plan
-plan_for own BadFrame = Bad
-plan_for own (Body body) = plan_of own (header_of body) body
+-- a bad frame "counts bad"; of any other its body is judged, in whichever framing it came, by what its port carries
+abbrev pub plan_for : ℕ → Port → Carried → Plan
+plan_for own port BadFrame = Bad
+plan_for own port (Body body) = plan_of own port (header_of body) body
+
+-- what a frame asks of the sonde with this address
+abbrev pub plan_to : ℕ → List ℕ → Arrival → Plan
+plan_to own frame a = plan_for own (port_in a) (carried frame a)
 
 -- the words that a write gives its field: "mask: (old and A) or (B and not A), then as 6"; old is what a read shows
 abbrev pub first_word : ℕ → Value → ℕ
@@ -132,10 +160,10 @@ entries_by d w a (Writing o f v) = entries_of (write_at d w a o f v)
 
 -- by what a frame carries
 unfoldable pub answer_of : Sonde → Carried → List ℕ → Arrival → Answer
-answer_of d c w a = planned d (header_of (body_of c)) (body_of c) w a (plan_for d.address c)
+answer_of d c w a = planned d (header_of (body_of c)) (body_of c) w a (plan_for d.address (port_in a) c)
 
 abbrev pub answer_to : Sonde → List ℕ → List ℕ → Arrival → Answer
-answer_to d frame w a = answer_of d (carried_in a.ascii frame) w a
+answer_to d frame w a = answer_of d (carried frame a) w a
 
 -- ---- what is left after the call
 
@@ -166,14 +194,12 @@ left x ascii reply =
       volume = x.volume;
     }
 
-abbrev pub arrival : ℕ → Bool → Arrival
-arrival clock ascii = record { clock = clock; ascii = ascii }
-
--- number 3, by the room that the framing's replies need, before any look at the frame; then number 4
+-- numbers 9 and 3; then number 4
 unfoldable pub frame_of : Sonde → List ℕ → List ℕ → List ℕ → Arrival → Outcome
 frame_of d frame reply w a =
-    cond (ltb (length reply) (room_in a.ascii)) (outcome (refused_by 3 d) reply w)
+    cond (eqb (arrival_number a (length reply)) 0)
     (cond (agrees d w) (left (answer_to d frame w a) a.ascii reply) (outcome (refused_by 4 d) reply w))
+    (outcome (refused_by (arrival_number a (length reply)) d) reply w)
 
 -- ---- a cut
 
@@ -181,4 +207,4 @@ frame_of d frame reply w a =
 -- nothing leaves the volume, and so does one that a number refuses
 unfoldable pub cut_of : Sonde → List ℕ → List ℕ → List ℕ → Arrival → ℕ → List ℕ
 cut_of d frame reply w a n =
-    cond (eqb (frame_of d frame reply w a).number 0) (appends_of n w (entries_by d w a (plan_for d.address (carried_in a.ascii frame)))) w
+    cond (eqb (frame_of d frame reply w a).number 0) (appends_of n w (entries_by d w a (plan_to d.address frame a))) w

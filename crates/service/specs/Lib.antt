@@ -5,3 +5,4 @@ pub mod Frame
 pub mod Framings
 pub mod Refusals
 pub mod Technicians
+pub mod Ports

@@ -2,7 +2,7 @@
 -- the one exception of document 02, wish 2: "an update that is refused for its limits alone puts the candidate in the trial figures". Assumes nothing.
 use Rattle.std.specs.Prelude.{◌≡◌, true, false, cond, Ok, List, [], ◌∷◌, ℕ, ◌+◌, ◌*◌, ◌≤◌, length, take, drop}
 use Rattle.floats.specs.Floats.{high_word, low_word}
-use Rattle.framing.specs.Framing.{carried_in, body_of, room_in}
+use Rattle.framing.specs.Framing.{body_of}
 use Rattle.modbus.specs.Request.{header_of}
 use Rattle.modbus.specs.declared.Value.{Value}
 use Rattle.replies.specs.Reply.{read_body, reply_of}
@@ -20,7 +20,7 @@ use Rattle.state.specs.Sonde.{sensor_at, setup_at, with_setup}
 use Rattle.state.specs.declared.Event.TheVariants.{Exception}
 use Rattle.state.specs.declared.Sonde.{Sonde}
 use Rattle.service.specs.Agrees.{agrees}
-use Rattle.service.specs.Frame.{answer, refusal_body, is_update, code_by, plan_for, Outcome, left, frame_of}
+use Rattle.service.specs.Frame.{carried, arrival_number, plan_to, answer, refusal_body, is_update, code_by, Outcome, left, frame_of}
 use Rattle.service.specs.Framings.{sent_by}
 use Rattle.service.specs.declared.Arrival.{Arrival}
 
@@ -36,7 +36,7 @@ refused_leaves d (Writing o f v) = cond (is_update o (sensor_at d o) f v) (with_
 -- what the call of a frame that a code refuses leaves, d being the sonde before the exception is counted: number 0, the exception reply (none at
 -- address 0), and the volume as it was
 abbrev pub refused_with : List ℕ → List ℕ → List ℕ → Arrival → ℕ → Sonde → Outcome
-refused_with frame reply w a code d = left (answer Exception (refusal_body (header_of (body_of (carried_in a.ascii frame))) code) d w) a.ascii reply
+refused_with frame reply w a code d = left (answer Exception (refusal_body (header_of (body_of (carried frame a))) code) d w) a.ascii reply
 
 -- ---- the figures of a failed update
 
@@ -45,7 +45,7 @@ refused_with frame reply w a code d = left (answer Exception (refusal_body (head
 pub record FailedUpdate (d : Sonde) (frame : List ℕ) (a : Arrival) (s : ℕ) (c : Coefficients) : Type 0 where
   pub field : Field
   pub value : Value
-  pub asks : plan_for d.address (carried_in a.ascii frame) ≡ Writing s field value
+  pub asks : plan_to d.address frame a ≡ Writing s field value
   pub is_update_holds : is_update s (sensor_at d s) field value ≡ true
   pub mode_on_holds : (setup_at d s).procedure.calibrating ≡ true
   pub candidate : candidate_of (method_set (setup_at d s)) ≡ Ok c
@@ -70,22 +70,22 @@ pub record CandidateShown (d : Sonde) (frame reply w : List ℕ) (a : Arrival) (
   pub volume : o.volume ≡ w
   pub replayed : (t : ℕ) → replay_of o.volume t ≡ replay_of w t
   -- the sensor is in mode, and a read of the figures' registers, n of them from offset 10 + i on, is answered with the candidate bit for bit, in
-  -- whichever framing and at whichever time
+  -- whichever framing, by whichever port and at whichever time
   pub mode_on_holds : (setup_at o.sonde s).procedure.calibrating ≡ true
-  pub shown : (frame' reply' : List ℕ) (b : Arrival) (i n : ℕ) → plan_for d.address (carried_in b.ascii frame') ≡ Reading (100 * s + 10 + i) n → i + n ≤ 6
-      → room_in b.ascii ≤ length reply'
+  pub shown : (frame' reply' : List ℕ) (b : Arrival) (i n : ℕ) → plan_to d.address frame' b ≡ Reading (100 * s + 10 + i) n → i + n ≤ 6
+      → arrival_number b (length reply') ≡ 0
       → sent_by (frame_of o.sonde frame' reply' o.volume b) ≡ reply_of b.ascii (read_body d.address (take n (drop i (coefficient_words c))))
 
 -- document 02, wish 2, as one claim: where no number refuses, each failed update shows its candidate
 abbrev pub FailedUpdatesShown : Type 0
 FailedUpdatesShown =
-    (d : Sonde) (frame reply w : List ℕ) (a : Arrival) (s : ℕ) (c : Coefficients) → agrees d w ≡ true → room_in a.ascii ≤ length reply
+    (d : Sonde) (frame reply w : List ℕ) (a : Arrival) (s : ℕ) (c : Coefficients) → agrees d w ≡ true → arrival_number a (length reply) ≡ 0
     → FailedUpdate d frame a s c → CandidateShown d frame reply w a s c (frame_of d frame reply w a)
 
 -- and it is the "one exception": any other frame that a code refuses changes the counters and writes its exception reply, and nothing else; "Equal
 -- points and results that aren't finite still change nothing"
 abbrev pub OtherRefusalsKeep : Type 0
 OtherRefusalsKeep =
-    (d : Sonde) (frame reply w : List ℕ) (a : Arrival) → agrees d w ≡ true → room_in a.ascii ≤ length reply
-    → (code_by d w a (plan_for d.address (carried_in a.ascii frame)) ≡ 0 → ⊥) → ((s : ℕ) (c : Coefficients) → FailedUpdate d frame a s c → ⊥)
-    → frame_of d frame reply w a ≡ refused_with frame reply w a (code_by d w a (plan_for d.address (carried_in a.ascii frame))) d
+    (d : Sonde) (frame reply w : List ℕ) (a : Arrival) → agrees d w ≡ true → arrival_number a (length reply) ≡ 0
+    → (code_by d w a (plan_to d.address frame a) ≡ 0 → ⊥) → ((s : ℕ) (c : Coefficients) → FailedUpdate d frame a s c → ⊥)
+    → frame_of d frame reply w a ≡ refused_with frame reply w a (code_by d w a (plan_to d.address frame a)) d

@@ -4,11 +4,13 @@
 
 use state::Sonde;
 
-// When and how a frame came: the clock, in whole seconds, and its framing, ASCII or RTU, by the flag that the call in C has.
+// When and how a frame came: the clock, in whole seconds, its framing, ASCII or RTU, by the flag that the call in C has, and the number of its port,
+// 1 serial or 2 radio; any other is refused.
 #[derive(Clone, Copy)]
 pub struct Arrival {
     pub clock: u32,
     pub ascii: bool,
+    pub port: u8,
 }
 
 // What fresh, begin, power-up and measure hand back.

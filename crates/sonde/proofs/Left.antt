@@ -5,12 +5,14 @@ use mathlib.Core.Bool.{Bool, true, false, cond}
 use mathlib.Core.List.{List}
 use Prim.Native.Nat.{ℕ, ◌-◌}
 use native.Mathlib.Omega.{arith}
-use lib.Dec.{ltb}
+use lib.Dec.{ltb, eqb}
 use lib.ListN.{length, set}
-use Rattle.std.specs.Prelude.{Some, None, Result, Ok, Err, ⊤}
+use Rattle.std.specs.Prelude.{Option, Some, None, Result, Ok, Err}
+use Rattle.ports.specs.Ports.{port_of, port_by}
+use Rattle.ports.specs.declared.Port.{Port}
 use Rattle.refusals.specs.Numbers.{number_of}
 use Rattle.refusals.specs.declared.numbers.Refusal.{Refusal}
-use Rattle.refusals.specs.declared.numbers.Refusal.TheVariants.{InvalidAddress, ShortVolume, ShortReply, Disagreement, NoSensor, RawNotFinite, ShortPage, BeyondSalvage}
+use Rattle.refusals.specs.declared.numbers.Refusal.TheVariants.{InvalidAddress, ShortVolume, ShortReply, Disagreement, NoSensor, RawNotFinite, ShortPage, BeyondSalvage, NoPort}
 use Rattle.words.specs.Overlay.{overlay}
 use Rattle.words.specs.Bytes.{Bytes}
 use Rattle.framing.specs.Framing.{Carried, carried_in, body_of, room_in}
@@ -26,7 +28,7 @@ use Rattle.state.specs.declared.Sonde.{Sonde}
 use Rattle.service.specs.Agrees.{agrees}
 use Rattle.service.specs.Reads.{device_in}
 use Rattle.replies.specs.Reply.{reply_of}
-use Rattle.service.specs.Frame.{Answer, plan_for, answer_of, answer_to, Outcome, outcome, refused_by, left, frame_of}
+use Rattle.service.specs.Frame.{Answer, port_in, carried, arrival_number, plan_for, answer_of, answer_to, Outcome, outcome, refused_by, left, frame_of}
 use Rattle.service.specs.Framings.{AnswersBytes}
 use Rattle.service.specs.declared.Arrival.{Arrival}
 use Rattle.service.proofs.Parts.{frame_facts}
@@ -37,26 +39,45 @@ use Rattle.frames.specs.declared.Served.{Served}
 use Rattle.frames.proofs.Steps.{steps_left}
 
 -- the body that the code hands on is the one that the frame carries
-pub handed_on : (ascii : Bool) (frame body decoded : List ℕ) → body ≡ cond ascii decoded (body_of (carried_in false frame)) → decoded ≡ decoded_in ascii frame
-    → body ≡ body_of (carried_in ascii frame)
-handed_on ascii frame body decoded e f = e ∙ ap (λ (l : List ℕ). cond ascii l (body_of (carried_in false frame))) f ∙ decoded_body ascii frame
+pub handed_on : (port : Port) (ascii : Bool) (frame body decoded : List ℕ) → body ≡ cond ascii decoded (body_of (carried_in port false frame))
+    → decoded ≡ decoded_in port ascii frame → body ≡ body_of (carried_in port ascii frame)
+handed_on port ascii frame body decoded e f = e ∙ ap (λ (l : List ℕ). cond ascii l (body_of (carried_in port false frame))) f ∙ decoded_body port ascii frame
+
+-- a port that was asked for is the one that a frame is judged by
+port_is : (n : ℕ) (port : Port) → port_of n ≡ Some port → port_by n ≡ port
+unfolding port_by
+port_is n port e = rw e
+
+-- both by whether the reply is too short
+abbrev admitted_in : Bool → Bool → Option Port → Result Port Refusal
+admitted_in fit short None = Err NoPort
+admitted_in fit short (Some port) = cond short (Err ShortReply) (cond fit (Ok port) (Err Disagreement))
+
+abbrev numbered_in : Bool → Option Port → ℕ
+numbered_in short None = 9
+numbered_in short (Some port) = cond short 3 0
 
 -- a frame that a number refuses
-pub refused_left : (d : Sonde) (frame reply w : List ℕ) (a : Arrival) (r : Refusal) → admitted a.ascii (length reply) (agrees d w) ≡ Err r
+pub refused_left : (d : Sonde) (frame reply w : List ℕ) (a : Arrival) (r : Refusal) → admitted a.port a.ascii (length reply) (agrees d w) ≡ Err r
     → outcome (refused_by (number_of r) d) reply w ≡ frame_of d frame reply w a
-unfolding admitted frame_of
-refused_left d frame reply w a r e = go (ltb (length reply) (room_in a.ascii)) (agrees d w) e
+unfolding admitted frame_of arrival_number
+refused_left d frame reply w a r e = go (port_of a.port) (ltb (length reply) (room_in a.ascii)) (agrees d w) e
   where
-    same : {p q : Refusal} → ◌≡◌ {A = Result ⊤ Refusal} (Err p) (Err q) → p ≡ q
+    same : {p q : Refusal} → ◌≡◌ {A = Result Port Refusal} (Err p) (Err q) → p ≡ q
     same e = cc
 
-    go : (short fit : Bool) → ◌≡◌ {A = Result ⊤ Refusal} (cond short (Err ShortReply) (cond fit (Ok tt) (Err Disagreement))) (Err r)
-        → outcome (refused_by (number_of r) d) reply w
-        ≡ cond short (outcome (refused_by 3 d) reply w)
+    -- what is left by the number that an arrival has
+    by : Bool → ℕ → Outcome
+    by fit n =
+        cond (eqb n 0)
         (cond fit (left (answer_to d frame w a) a.ascii reply) (outcome (refused_by 4 d) reply w))
-    go true fit e = rw (← same e)
-    go false true e = let z : ◌≡◌ {A = ℕ} 0 1 = cc in absurd (omega arith)
-    go false false e = rw (← same e)
+        (outcome (refused_by n d) reply w)
+
+    go : (o : Option Port) (short fit : Bool) → admitted_in fit short o ≡ Err r → outcome (refused_by (number_of r) d) reply w ≡ by fit (numbered_in short o)
+    go None short fit e = rw (← same e)
+    go (Some port) true fit e = rw (← same e)
+    go (Some port) false true e = let z : ◌≡◌ {A = ℕ} 0 1 = cc in absurd (omega arith)
+    go (Some port) false false e = rw (← same e)
 
 -- has no answer that could be other than bytes
 pub refused_bytes : (d : Sonde) (frame reply w : List ℕ) (a : Arrival) (r : Refusal) → outcome (refused_by (number_of r) d) reply w ≡ frame_of d frame reply w a
@@ -72,45 +93,57 @@ refused_bytes d frame reply w a r e h = absurd (numbered r (ap (λ (o : Outcome)
     numbered RawNotFinite e = omega arith
     numbered ShortPage e = omega arith
     numbered BeyondSalvage e = omega arith
+    numbered NoPort e = omega arith
 
--- one that none does
-pub passed : (ascii : Bool) (room : ℕ) (fit : Bool) → admitted ascii room fit ≡ Ok tt → (ltb room (room_in ascii) ≡ false) × (fit ≡ true)
-unfolding admitted
-passed ascii room fit e = go (ltb room (room_in ascii)) fit e
+-- one that none does: the reply has its room, sonde and volume agree, no number is due before that, and the port is the one that it is judged by
+pub record Passed (a : Arrival) (room : ℕ) (fit : Bool) (port : Port) : Type 0 where
+  pub long : ltb room (room_in a.ascii) ≡ false
+  pub fits : fit ≡ true
+  pub number : arrival_number a room ≡ 0
+  pub carrier : port ≡ port_in a
+
+pub passed : (a : Arrival) (room : ℕ) (fit : Bool) (port : Port) → admitted a.port a.ascii room fit ≡ Ok port → Passed a room fit port
+unfolding admitted arrival_number
+passed a room fit port e = go (port_of a.port) refl (ltb room (room_in a.ascii)) refl fit refl e
   where
-    go : (short fit : Bool) → ◌≡◌ {A = Result ⊤ Refusal} (cond short (Err ShortReply) (cond fit (Ok tt) (Err Disagreement))) (Ok tt) → (short ≡ false) × (fit ≡ true)
-    go true fit e = let z : ◌≡◌ {A = ℕ} 0 1 = cc in absurd (omega arith)
-    go false true e = (refl, refl)
-    go false false e = let z : ◌≡◌ {A = ℕ} 0 1 = cc in absurd (omega arith)
+    go : (o : Option Port) → port_of a.port ≡ o → (short : Bool) → ltb room (room_in a.ascii) ≡ short → (agreed : Bool) → fit ≡ agreed
+        → admitted_in agreed short o ≡ Ok port → Passed a room fit port
+    go None p short s agreed f e = let z : ◌≡◌ {A = ℕ} 0 1 = cc in absurd (omega arith)
+    go (Some q) p true s agreed f e = let z : ◌≡◌ {A = ℕ} 0 1 = cc in absurd (omega arith)
+    go (Some q) p false s false f e = let z : ◌≡◌ {A = ℕ} 0 1 = cc in absurd (omega arith)
+    go (Some q) p false s true f e =
+        let same : q ≡ port = cc in
+        record { long = s; fits = f; number = rw (p, s); carrier = sym (port_is a.port q p ∙ same) }
 
-module _ (d : Sonde) (frame reply w : List ℕ) (a : Arrival) (taken : admitted a.ascii (length reply) (agrees d w) ≡ Ok tt)
-    (x : Carried) (carried : x ≡ carried_in a.ascii frame) where
+module _ (d : Sonde) (frame reply w : List ℕ) (a : Arrival) (port : Port) (taken : Passed a (length reply) (agrees d w) port)
+    (x : Carried) (carries : x ≡ carried frame a) where
   abbrev owner : ℕ
-  owner = owner_of (plan_for d.address x)
+  owner = owner_of (plan_for d.address (port_in a) x)
 
   abbrev step : Step
-  step = step_for d.address (device_in d w a) (sensor_at d owner) x w
+  step = step_for d.address (port_in a) (device_in d w a) (sensor_at d owner) x w
 
   -- the step is what the definition says
   step_left : outcome (record { number = 0; length = length (reply_of a.ascii step.body); sonde = counted_by step.event (with_technician (changed d owner step.change) step.technician) })
       (overlay (reply_of a.ascii step.body) reply) step.volume ≡ frame_of d frame reply w a
   unfolding step_for frame_of left answer_of
   step_left =
-      rw ((passed _ _ _ taken).0, (passed _ _ _ taken).1, ← carried)
-      (ap (λ (y : Answer). left y a.ascii reply) (steps_left d (header_of (body_of x)) (body_of x) w a (plan_for d.address x) (frame_facts d.address x)))
+      rw (taken.number, taken.fits, ← carries)
+      (ap (λ (y : Answer). left y a.ascii reply)
+      (steps_left d (header_of (body_of x)) (body_of x) w a (plan_for d.address (port_in a) x) (frame_facts d.address (port_in a) x)))
 
   -- and its body is what is answered
-  pub step_bytes : (s : Sensor) → s ≡ sensor_at d owner → Bytes (step_for d.address (device_in d w a) s x w).body → AnswersBytes d frame reply w a
+  pub step_bytes : (s : Sensor) → s ≡ sensor_at d owner → Bytes (step_for d.address (port_in a) (device_in d w a) s x w).body → AnswersBytes d frame reply w a
   unfolding step_for answer_of
   step_bytes s named b h =
-      rw (← carried)
+      rw (← carries)
       (subst (λ (y : Answer). Bytes y.body)
-      (steps_left d (header_of (body_of x)) (body_of x) w a (plan_for d.address x) (frame_facts d.address x)) (rw named at b))
+      (steps_left d (header_of (body_of x)) (body_of x) w a (plan_for d.address (port_in a) x) (frame_facts d.address (port_in a) x)) (rw named at b))
 
   module _ (r : Served) (reply' w' : List ℕ) (c : Counters) (s : Sensor) (named : s ≡ sensor_at d owner)
-      (served : r ≡ served_of a.ascii (step_for d.address (device_in d w a) s x w))
-      (sent : reply' ≡ overlay (reply_of a.ascii (step_for d.address (device_in d w a) s x w).body) reply)
-      (words : w' ≡ (step_for d.address (device_in d w a) s x w).volume) (count : c ≡ counted r.event d.counters) where
+      (served : r ≡ served_of a.ascii (step_for d.address (port_in a) (device_in d w a) s x w))
+      (sent : reply' ≡ overlay (reply_of a.ascii (step_for d.address (port_in a) (device_in d w a) s x w).body) reply)
+      (words : w' ≡ (step_for d.address (port_in a) (device_in d w a) s x w).volume) (count : c ≡ counted r.event d.counters) where
     -- a frame that changes the counters alone
     pub nothing_left : r.change ≡ None → outcome (record { number = 0; length = r.length; sonde = sonde d.address r.technician d.sensors c }) reply' w' ≡ frame_of d frame reply w a
     unfolding counted_by with_technician

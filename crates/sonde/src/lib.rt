@@ -44,7 +44,8 @@ pub fn sonde_measure(sonde: Sonde, sensor: u8, present: bool, raw1: f32, raw2: f
 }
 
 // The numbers come first. Then what the frame carries is judged and answered from the parts of the sonde that it needs, and what it changes is put
-// into the sonde once. An ASCII frame is decoded into bytes of the call's own; the body of an RTU frame is a part of it.
+// into the sonde once. An ASCII frame is decoded into bytes of the call's own; the body of an RTU frame is a part of it. Its port says how long a frame
+// may be, and a read.
 pub fn sonde_frame(
     mut sonde: Sonde,
     frame: &[u8],
@@ -52,22 +53,26 @@ pub fn sonde_frame(
     volume: &mut [u16],
     clock: u32,
     ascii: bool,
+    port: u8,
 ) -> SondeFrame
-    ensures as_defined { outcome result reply.new volume.new ≡ frame_of sonde frame.now reply.old volume.old (arrival clock ascii) }
-    ensures answers_bytes { AnswersBytes sonde frame.now reply.old volume.old (arrival clock ascii) }
+    ensures as_defined { outcome result reply.new volume.new ≡ frame_of sonde frame.now reply.old volume.old (arrival clock ascii port) }
+    ensures answers_bytes { AnswersBytes sonde frame.now reply.old volume.old (arrival clock ascii port) }
 {
     let agreed = consistency::agrees(&sonde, volume);
-    if let Err(refusal) = admission::admit(ascii, reply.len(), agreed) {
-        return SondeFrame {
-            number: u8::from(refusal),
-            length: 0,
-            sonde,
-        };
-    }
+    let carrier = match admission::admit(port, ascii, reply.len(), agreed) {
+        Ok(carrier) => carrier,
+        Err(refusal) => {
+            return SondeFrame {
+                number: u8::from(refusal),
+                length: 0,
+                sonde,
+            };
+        }
+    };
     let mut decoded: [u8; 255] = [0; 255];
-    let n = framing::decode(ascii, frame, &mut decoded);
-    let body = framing::body(ascii, frame, &decoded[..n]);
-    let judged = admission::judge(sonde.address, body);
+    let n = framing::decode(carrier, ascii, frame, &mut decoded);
+    let body = framing::body(carrier, ascii, frame, &decoded[..n]);
+    let judged = admission::judge(sonde.address, carrier, body);
     let i = admission::sensor_index(judged);
     let counters = sonde.counters;
     let technician = sonde.technician;
@@ -80,16 +85,15 @@ pub fn sonde_frame(
         counters,
         technician,
         &sonde.sensors[i],
-        Arrival { clock, ascii },
+        Arrival { clock, ascii, port },
     );
     let event = served.event;
-    let after = counters.count(event);
+    let after = sonde.counters.count(event);
     sonde.counters = after;
     sonde.technician = served.technician;
     let length = served.length;
     if let Some(setup) = served.change {
-        let named = sonde.sensors[i];
-        let t = named.with_setup(setup);
+        let t = sonde.sensors[i].with_setup(setup);
         sonde.sensors[i] = t;
     }
     SondeFrame {

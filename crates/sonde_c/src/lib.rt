@@ -59,11 +59,12 @@ pub extern "C" fn sonde_frame(
     volume: &mut [u16],
     clock: u32,
     ascii: bool,
+    port: u8,
 ) -> SondeFrame
-    ensures as_defined { outcome result reply.new volume.new ≡ frame_of sonde frame.now reply.old volume.old (arrival clock ascii) }
-    ensures answers_bytes { AnswersBytes sonde frame.now reply.old volume.old (arrival clock ascii) }
+    ensures as_defined { outcome result reply.new volume.new ≡ frame_of sonde frame.now reply.old volume.old (arrival clock ascii port) }
+    ensures answers_bytes { AnswersBytes sonde frame.now reply.old volume.old (arrival clock ascii port) }
 {
-    sonde::sonde_frame(sonde, frame, reply, volume, clock, ascii)
+    sonde::sonde_frame(sonde, frame, reply, volume, clock, ascii, port)
 }
 
 #[unsafe(no_mangle)]

@@ -7,6 +7,7 @@ mod table; // CRC-16 by a table
 
 ghost use Rattle.std.specs.Iterator.{IsFinite};
 
+use ports::Port;
 use std::io;
 use text::tally::{Summary, Tally, Verdict};
 use words::Halves;
@@ -26,9 +27,12 @@ fn compare_frame(rt: &impl Print, line: &[u8]) -> io::Result<bool> {
     let n = text::decode(line, &mut space);
     let frame = &space[..n];
     let body = rtu::frame::body(frame);
+    let longest = Port::Serial.limits().longest;
     let library = rtu::crc::crc16(body);
     let table = table::crc16(body);
-    let agrees = (library == table) & (library == sent(frame)) & rtu::frame::is_good(frame);
+    let agrees = (library == table)
+        & (library == sent(frame))
+        & rtu::frame::is_good(longest, frame);
     print!(rt; "{}{library:04x} {table:04x}  ", Verdict(agrees))?;
     rt.write_all(line)?;
     println!(rt)?;

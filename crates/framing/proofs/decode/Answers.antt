@@ -1,18 +1,28 @@
--- An RTU frame has nothing to decode. Assumes nothing.
-use Rattle.framing.specs.Steps.{decoded_in, decoded_into}
-use Rattle.framing.proofs.Carried.{good_body_is}
+-- By whether the frame is ASCII and the port carries it. Assumes nothing.
+use mathlib.Core.Path.{◌≡◌, ap, ◌∙◌}
+use mathlib.Core.Bool.{true, false, ◌&&◌}
+use lib.ListN.{length}
+use Rattle.ports.specs.Ports.{limits}
+use Rattle.framing.specs.Steps.{decoded_into}
+use Rattle.framing.proofs.Carried.{decoded_held, decoded_none}
 use Rattle.framing.proofs.decode.Goals as goal
 
-pub returns-then-ascii : goal.returns-then-ascii
-unfolding decoded_in decoded_into
-returns-then-ascii c =
-    let e = good_body_is c.args.frame.now in
+pub returns-then-ascii-limits : goal.returns-then-ascii-limits
+unfolding decoded_into
+returns-then-ascii-limits c =
+    let a = c.args in
+    let t : a.ascii && (limits a.port).ascii ≡ true = rw c.limits.ensures at c.if-ascii-limits.true in
+    let e = decoded_held a.port a.ascii a.frame.now t in
     record {
-      value = rw (c.if-ascii.true, ← e) c.decode.ensures.value;
-      body = rw (c.if-ascii.true, ← e) c.decode.ensures.body;
-      bytes_after = rw c.if-ascii.true c.decode.ensures.bytes_after;
+      value = c.decode.ensures.value ∙ ap length e;
+      body = c.decode.ensures.body ∙ e;
+      bytes_after = rw t c.decode.ensures.bytes_after;
     }
 
 pub returns : goal.returns
-unfolding decoded_in decoded_into
-returns c = record { value = rw c.if-ascii.false; body = rw c.if-ascii.false; bytes_after = rw c.if-ascii.false }
+unfolding decoded_into
+returns c =
+    let a = c.args in
+    let f : a.ascii && (limits a.port).ascii ≡ false = rw c.limits.ensures at c.if-ascii-limits.false in
+    let e = decoded_none a.port a.ascii a.frame.now f in
+    record { value = ap length e; body = e; bytes_after = rw f }
