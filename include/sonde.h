@@ -1,6 +1,6 @@
 /*
- * The register service of a water-quality sonde over Modbus RTU and ASCII: four sensors, their calibration, and the journal of every accepted
- * calibration.
+ * The register service of a water-quality sonde over Modbus RTU and ASCII, on a serial line and a radio bridge: four sensors, their calibration, and the
+ * journal of every accepted calibration.
  *
  * Ten calls. Each is a function of its arguments alone: no call keeps anything, allocates, blocks or fails to return. The sonde goes in and
  * comes back by value; the host keeps it between calls. The volume (the words of the journal) is the host's memory and is lent for the call.
@@ -20,7 +20,7 @@
  *     for (;;) {
  *         size_t n = next_frame(bytes);                 the host cuts frames, see sonde_frame
  *         sonde = sonde_measure(sonde, 1, true, conductivity(), temperature()).sonde;
- *         SondeFrame f = sonde_frame(sonde, bytes, n, reply, sizeof reply, volume, 24064, seconds(), false);
+ *         SondeFrame f = sonde_frame(sonde, bytes, n, reply, sizeof reply, volume, 24064, seconds(), false, SONDE_PORT_SERIAL);
  *         if (f.number != SONDE_OK) { ... }             nothing was changed
  *         sonde = f.sonde;
  *         store(volume, 24064);                         safely, before the reply is sent
@@ -33,7 +33,7 @@
  * nearest, subnormals kept. Of the C library it needs memcpy and nothing else. No heap, and no variables of its own (.data and .bss are empty).
  *
  *     flash   at most 28672 bytes of code and constants
- *     stack   at most 3584 bytes for a call, with its arguments and its result. A memcpy that the dynamic linker binds late takes its own at first
+ *     stack   at most 3648 bytes for a call, with its arguments and its result. A memcpy that the dynamic linker binds late takes its own at first
  *     RAM     what the host keeps: a sonde 396 bytes, the volume 2 for each word (48128 for 1000 entries), the reply 256 (ASCII 513)
  *             and where it prints, the page: 53 for each line (53212 for 1000 entries)
  */
@@ -52,7 +52,7 @@ extern "C" {
 
 /* ---- sizes ---- */
 
-#define SONDE_REPLY_BYTES 256       /* the least reply buffer for an RTU frame; a reply is never longer */
+#define SONDE_REPLY_BYTES 256       /* the least reply buffer for an RTU frame, on either port; a reply is never longer */
 #define SONDE_ASCII_REPLY_BYTES 513 /* for an ASCII frame; the longest reply has 511 characters */
 #define SONDE_LEAST_WORDS 88        /* the least volume: capacity 1 */
 #define SONDE_MOST_WORDS 24064      /* words beyond these are never used: capacity 1000 */
@@ -61,6 +61,13 @@ extern "C" {
 
 /* The page of a volume with so many entries in use: a line of 53 bytes for each sensor's opening, and for each entry. */
 #define SONDE_PAGE_BYTES(entries) (53 * (4 + (size_t)(entries)))
+
+/* ---- ports: where a frame came from, and where its reply goes; see sonde_frame ---- */
+
+enum {
+    SONDE_PORT_SERIAL = 1, /* the serial line */
+    SONDE_PORT_RADIO = 2   /* the radio bridge, which carries 64 bytes */
+};
 
 /* ---- numbers: what a call is refused by. A call that is refused changes nothing. ---- */
 
@@ -73,7 +80,8 @@ enum {
     SONDE_NO_SENSOR = 5,      /* measure: the sensor isn't 1..4 */
     SONDE_NOT_FINITE = 6,     /* measure, present: a raw value that is read isn't finite */
     SONDE_SHORT_PAGE = 7,     /* print: the page has fewer bytes than SONDE_PAGE_BYTES of the entries in use */
-    SONDE_BEYOND_SALVAGE = 8  /* salvage: the volume has a fault that no choice of its chain words makes valid */
+    SONDE_BEYOND_SALVAGE = 8, /* salvage: the volume has a fault that no choice of its chain words makes valid */
+    SONDE_NO_PORT = 9         /* frame: the port isn't 1 or 2 */
 };
 
 /* ---- the sonde. A host copies it and need not look inside; a sonde that it builds by hand has to be valid (number 4). ---- */
@@ -157,18 +165,26 @@ SondeMade sonde_measure(Sonde sonde, uint8_t sensor, bool present, float raw1, f
 /*
  * One Modbus frame, whole, at this clock (whole seconds). The reply has the framing of its request; `length` bytes of the reply buffer are to be
  * sent, 0 for none, and the bytes past them stay. The volume changes by an accepted calibration alone: write it to safe storage before the reply
- * is sent. The entry of a calibration carries the technician's number that the sonde has at its update. Refused by 3, then 4; the length is then 0,
+ * is sent. The entry of a calibration carries the technician's number that the sonde has at its update. Refused by 9, 3, then 4; the length is then 0,
  * and sonde, reply and volume stay as they were. A frame that is answered by an exception changes the sonde's counters and nothing else, but for an
  * update that is refused for its limits alone (0x97): its candidate becomes the trial.
  *
- * `ascii` says which framing the frame has, and by that how long the reply buffer has to be, whatever the frame holds. The host cuts frames:
+ * `ascii` says which framing the frame has, and by that how long the reply buffer has to be, whatever the frame holds and on either port. The host cuts
+ * frames:
  *     RTU     (false) by silence; up to 256 bytes, the CRC-16 among them
  *     ASCII   (true) from a colon to LF, both included, and from the last colon where there are more; up to 513 characters, their top bit 0 (of
  *             7 data bits with parity, the parity bit taken off), digits A-F in capitals
  * A frame that breaks its form, or is longer, counts bad and gets no reply. Of a longer one the first 257 bytes (ASCII 514) are enough.
+ *
+ * `port` says where the frame came from, and is looked at first of all. Both ports share the sonde, its counters and its volume; they differ in what
+ * they take:
+ *     SONDE_PORT_SERIAL   frames as above, and reads of up to 125 registers
+ *     SONDE_PORT_RADIO    RTU frames of up to 64 bytes, and reads of up to 29 registers; no reply has more than 64 bytes
+ * On the radio a longer frame (of which the first 65 bytes are enough) and every ASCII frame counts bad and gets no reply, whatever its address. A read of
+ * more registers than its port takes is exception 3.
  */
 SondeFrame sonde_frame(Sonde sonde, const uint8_t *frame, size_t frame_len, uint8_t *reply, size_t reply_len, uint16_t *volume, size_t words,
-                       uint32_t clock, bool ascii);
+                       uint32_t clock, bool ascii, uint8_t port);
 
 /* Whether the sonde and its volume are valid and agree: 0 with the entries in use, or 4 with 0. Changes nothing. */
 SondeAudit sonde_audit(Sonde sonde, const uint16_t *volume, size_t words);

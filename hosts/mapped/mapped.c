@@ -142,7 +142,8 @@ static void serve(Sonde sonde, Volume volume) {
         if (!parsed(line, &clock, frame, &length)) end(2, "standard input", "a line that isn't a request");
         /* Here a board measures its sensors: sonde = sonde_measure(sonde, 1, true, conductivity(), temperature()).sonde, and so on. */
         uint16_t in_use = volume.words[IN_USE];
-        SondeFrame f = sonde_frame(sonde, frame, length, reply, sizeof reply, volume.words, volume.count, clock, false);
+        SondeFrame f =
+            sonde_frame(sonde, frame, length, reply, sizeof reply, volume.words, volume.count, clock, false, SONDE_PORT_SERIAL);
         if (f.number != SONDE_OK) end_by_number("frame", f.number);
         sonde = f.sonde;
         if (volume.words[IN_USE] != in_use) make_safe(volume); /* before the reply: what is answered is kept */

@@ -34,7 +34,7 @@ static bool ask(const uint8_t *body, size_t n, const uint8_t *expected, size_t m
     uint8_t frame[32], due[32], reply[SONDE_REPLY_BYTES];
     memcpy(frame, body, n);
     memcpy(due, expected, m);
-    SondeFrame f = sonde_frame(sonde, frame, sealed(frame, n), reply, sizeof reply, volume, WORDS, clock, false);
+    SondeFrame f = sonde_frame(sonde, frame, sealed(frame, n), reply, sizeof reply, volume, WORDS, clock, false, SONDE_PORT_SERIAL);
     sonde = f.sonde;
     return f.number == SONDE_OK && f.length == sealed(due, m) && memcmp(reply, due, f.length) == 0;
 }

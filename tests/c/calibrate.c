@@ -1,9 +1,9 @@
 /*
  * A host in C, through include/sonde.h: begins a volume, calibrates sensor 2 over frames (two points), reads the calibration back, powers up
- * and audits, then does the same in ASCII, and in both framings side by side; then an update that fails for its limits alone, read back and
- * corrected; then technicians who give their numbers, and the entries that name them; then it prints a journal, sums frames by rounds of the CRC, and
- * at last cuts appends short and salvages what they leave. Each step is compared with the bytes and numbers that documents 01 and 02 give; the exit
- * status is 1 where one differs.
+ * and audits, then does the same in ASCII, and in both framings side by side; then frames over the radio beside the serial line, and what the radio
+ * doesn't take; then an update that fails for its limits alone, read back and corrected; then technicians who give their numbers, and the entries that
+ * name them; then it prints a journal, sums frames by rounds of the CRC, and at last cuts appends short and salvages what they leave. Each step is
+ * compared with the bytes and numbers that documents 01 and 02 give; the exit status is 1 where one differs.
  */
 #include <stdio.h>
 #include <string.h>
@@ -45,14 +45,24 @@ static bool rest_stays(size_t n) {
     return true;
 }
 
+/* Sends a frame, with so many bytes of the reply buffer lent. */
+static SondeFrame send_frame(Sonde sonde, const void *frame, size_t n, size_t reply_len, bool ascii, uint8_t port) {
+    memset(reply, 0xAA, sizeof reply);
+    return sonde_frame(sonde, frame, n, reply, reply_len, volume, WORDS, 0x12345678, ascii, port);
+}
+
+/* In RTU, over the serial line. */
+static SondeFrame send_rtu(Sonde sonde, const uint8_t *frame, size_t n, size_t reply_len) {
+    return send_frame(sonde, frame, n, reply_len, false, SONDE_PORT_SERIAL);
+}
+
 /* Sends a body as a frame and holds the reply to the expected body; the bytes past it stay. */
 static Sonde ask(Sonde sonde, const uint8_t *body, size_t n, const uint8_t *expected, size_t m, const char *what) {
     uint8_t frame[256], answer[256];
     memcpy(frame, body, n);
     memcpy(answer, expected, m);
-    size_t sent = sealed(frame, n), due = sealed(answer, m);
-    memset(reply, 0xAA, sizeof reply);
-    SondeFrame f = sonde_frame(sonde, frame, sent, reply, SONDE_REPLY_BYTES, volume, WORDS, 0x12345678, false);
+    size_t due = sealed(answer, m);
+    SondeFrame f = send_rtu(sonde, frame, sealed(frame, n), SONDE_REPLY_BYTES);
     check(f.number == SONDE_OK && f.length == due && memcmp(reply, answer, due) == 0 && rest_stays(due), what);
     return f.sonde;
 }
@@ -88,11 +98,10 @@ static void in_rtu(void) {
     s = ask(made.sonde, BYTES(17, 3, 0, 230, 0, 2), BYTES(17, 3, 4, 0x40, 0x90, 0, 0), "oxygen reads 4.5");
 
     /* Numbers of the frame call, a bad frame, and a counter that has stopped. */
-    memset(reply, 0xAA, sizeof reply);
-    SondeFrame f = sonde_frame(s, BYTES(17, 3, 0, 0, 0, 1), reply, SONDE_REPLY_BYTES - 1, volume, WORDS, 0, false);
+    SondeFrame f = send_rtu(s, BYTES(17, 3, 0, 0, 0, 1), SONDE_REPLY_BYTES - 1);
     check(f.number == SONDE_SHORT_REPLY && f.length == 0 && f.sonde.counters.bad == 0 && rest_stays(0), "reply buffer of 255 bytes: number 3, nothing counted");
     s.counters.bad = 65535;
-    f = sonde_frame(s, BYTES(17, 3, 0, 0, 0, 1), reply, SONDE_REPLY_BYTES, volume, WORDS, 0, false);
+    f = send_rtu(s, BYTES(17, 3, 0, 0, 0, 1), SONDE_REPLY_BYTES);
     check(f.number == SONDE_OK && f.length == 0 && f.sonde.counters.bad == 65535 && rest_stays(0), "bad frame: no reply, and the counter stops");
     s.counters.good = 65535;
     s = ask(s, BYTES(17, 0x44, 1), BYTES(17, 0xC4, 1), "another function: code 1");
@@ -129,8 +138,7 @@ static Sonde begun(uint16_t *words) {
 }
 
 static SondeFrame send_ascii(Sonde sonde, const void *frame, size_t n, size_t reply_len) {
-    memset(reply, 0xAA, sizeof reply);
-    return sonde_frame(sonde, frame, n, reply, reply_len, volume, WORDS, 0x12345678, true);
+    return send_frame(sonde, frame, n, reply_len, true, SONDE_PORT_SERIAL);
 }
 
 /* Sends n characters and holds the reply to the expected ones, "" for none; the bytes past it stay. */
@@ -220,35 +228,39 @@ static bool same_sonde(const Sonde *a, const Sonde *b) {
     return same;
 }
 
+/* Two calibrations of sensor 2 by technician 0x1267, an update that fails, and reads and other frames. */
+static const struct { uint8_t length, bytes[13]; } bodies[] = {
+    {6, {17, 6, 0, 205, 0xE0, 0x00}},
+    {6, {17, 6, 0, 206, 0, 2}},
+    {9, {17, 16, 0, 9, 0, 1, 2, 0x12, 0x67}},
+    {11, {17, 16, 0, 216, 0, 2, 4, 0x41, 0, 0, 0}},
+    {6, {17, 6, 0, 205, 0xE0, 0x01}}, /* y1 = 0 makes a slope of 0: out of limits */
+    {11, {17, 16, 0, 218, 0, 2, 4, 0x41, 0x10, 0, 0}},
+    {8, {17, 22, 0, 205, 0, 0, 0xE0, 0x01}},
+    {6, {0, 6, 0, 205, 0xE0, 0x01}},
+    {6, {17, 3, 0, 130, 0, 24}},
+    {6, {0, 3, 0, 130, 0, 24}},
+    {6, {18, 3, 0, 130, 0, 24}},
+    {6, {17, 3, 0x25, 0, 0, 1}},
+    {2, {17, 3}},
+    {3, {17, 0x44, 1}},
+};
+#define BODIES (sizeof bodies / sizeof *bodies)
+
 /* One body in either framing, to sondes and volumes that are the same, leaves them the same, and its replies say the same. */
 static void in_both_framings(void) {
     static uint16_t other[WORDS];
-    static const struct { uint8_t length, bytes[13]; } bodies[] = {
-        {6, {17, 6, 0, 205, 0xE0, 0x00}},
-        {6, {17, 6, 0, 206, 0, 2}},
-        {9, {17, 16, 0, 9, 0, 1, 2, 0x12, 0x67}},
-        {11, {17, 16, 0, 216, 0, 2, 4, 0x41, 0, 0, 0}},
-        {6, {17, 6, 0, 205, 0xE0, 0x01}}, /* y1 = 0 makes a slope of 0: out of limits */
-        {11, {17, 16, 0, 218, 0, 2, 4, 0x41, 0x10, 0, 0}},
-        {8, {17, 22, 0, 205, 0, 0, 0xE0, 0x01}},
-        {6, {0, 6, 0, 205, 0xE0, 0x01}},
-        {6, {17, 3, 0, 130, 0, 24}},
-        {6, {0, 3, 0, 130, 0, 24}},
-        {6, {18, 3, 0, 130, 0, 24}},
-        {6, {17, 3, 0x25, 0, 0, 1}},
-        {2, {17, 3}},
-        {3, {17, 0x44, 1}},
-    };
     memset(volume, 0, sizeof volume);
     Sonde rtu = begun(volume), ascii = begun(other);
-    for (size_t i = 0; i < sizeof bodies / sizeof *bodies; i++) {
+    for (size_t i = 0; i < BODIES; i++) {
         uint8_t frame[16], answer[SONDE_REPLY_BYTES];
         char characters[64], due[600] = "";
         size_t n = bodies[i].length, spelt_n = spelt(characters, bodies[i].bytes, n), due_n = 0;
         memcpy(frame, bodies[i].bytes, n);
-        SondeFrame r = sonde_frame(rtu, frame, sealed(frame, n), answer, sizeof answer, volume, WORDS, 1000, false);
+        SondeFrame r = sonde_frame(rtu, frame, sealed(frame, n), answer, sizeof answer, volume, WORDS, 1000, false, SONDE_PORT_SERIAL);
         if (r.length > 0) due_n = spelt(due, answer, r.length - 2u);
-        SondeFrame a = sonde_frame(ascii, (const uint8_t *)characters, spelt_n, reply, sizeof reply, other, WORDS, 1000, true);
+        SondeFrame a =
+            sonde_frame(ascii, (const uint8_t *)characters, spelt_n, reply, sizeof reply, other, WORDS, 1000, true, SONDE_PORT_SERIAL);
         rtu = r.sonde;
         ascii = a.sonde;
         check(r.number == SONDE_OK && a.number == SONDE_OK, "both framings: number 0");
@@ -257,6 +269,198 @@ static void in_both_framings(void) {
     }
     check(sonde_audit(ascii, other, WORDS).entries == 2, "both framings: 2 entries");
     check(volume[64 + 3] == 0x1267 && volume[88 + 3] == 0x1267, "both framings: technician 0x1267 in both entries");
+}
+
+/* ---- over the radio */
+
+/* The same bodies over the serial line, over the radio, and over one after the other, each to its own sonde and volume, leave and answer the same. */
+static void on_both_ports(void) {
+    static struct { uint8_t ports[2]; Sonde sonde; uint16_t words[WORDS]; uint8_t reply[SONDE_REPLY_BYTES]; } sides[] = {
+        {.ports = {SONDE_PORT_SERIAL, SONDE_PORT_SERIAL}},
+        {.ports = {SONDE_PORT_RADIO, SONDE_PORT_RADIO}},
+        {.ports = {SONDE_PORT_SERIAL, SONDE_PORT_RADIO}},
+    };
+    for (size_t k = 0; k < 3; k++) sides[k].sonde = begun(sides[k].words);
+    for (size_t i = 0; i < BODIES; i++) {
+        uint8_t frame[16];
+        uint16_t lengths[3];
+        memcpy(frame, bodies[i].bytes, bodies[i].length);
+        size_t n = sealed(frame, bodies[i].length);
+        for (size_t k = 0; k < 3; k++) {
+            uint8_t port = sides[k].ports[i % 2];
+            SondeFrame f = sonde_frame(sides[k].sonde, frame, n, sides[k].reply, SONDE_REPLY_BYTES, sides[k].words, WORDS, 1000, false, port);
+            check(f.number == SONDE_OK && f.length <= 64, "both ports: number 0, and a reply of at most 64 bytes");
+            sides[k].sonde = f.sonde;
+            lengths[k] = f.length;
+        }
+        for (size_t k = 1; k < 3; k++) {
+            check(lengths[k] == lengths[0] && memcmp(sides[k].reply, sides[0].reply, lengths[0]) == 0, "both ports: one reply");
+            check(same_sonde(&sides[k].sonde, &sides[0].sonde), "both ports: one sonde, and its counters");
+            check(memcmp(sides[k].words, sides[0].words, sizeof sides[0].words) == 0, "both ports: one volume");
+        }
+    }
+    check(sonde_audit(sides[1].sonde, sides[1].words, WORDS).entries == 2, "both ports: 2 entries");
+    check(sides[1].words[64 + 3] == 0x1267, "both ports: technician 0x1267 in an entry that came over the radio");
+}
+
+/* What comes of a frame: the code of an exception, or one of these. */
+enum { BAD = -4, UNCOUNTED, UNANSWERED, ANSWERED, WRONG = 1000 };
+
+/* By the counters and the reply. The reply's checksum is right, and the bytes past it stay. */
+static int outcome(const Sonde *before, const SondeFrame *f) {
+    const SondeCounters *was = &before->counters, *is = &f->sonde.counters;
+    int good = is->good - was->good, bad = is->bad - was->bad, exceptions = is->exceptions - was->exceptions;
+    if (f->number != SONDE_OK || good + bad > 1 || exceptions > good || !rest_stays(f->length)) return WRONG;
+    if (f->length == 0) return exceptions > 0 ? WRONG : bad ? BAD : good ? UNANSWERED : UNCOUNTED;
+    if (!good || crc(reply, f->length) != 0 || exceptions != reply[1] >> 7) return WRONG;
+    return exceptions ? reply[2] : ANSWERED;
+}
+
+/* The outcome of an RTU frame on a port. But for the counters the sonde stays, and so does the volume; over the radio a reply has at most 64 bytes. */
+static int outcome_on(uint8_t port, const Sonde *sonde, const uint8_t *frame, size_t n) {
+    static uint16_t before[WORDS];
+    memcpy(before, volume, sizeof before);
+    SondeFrame f = send_frame(*sonde, frame, n, SONDE_REPLY_BYTES, false, port);
+    int found = outcome(sonde, &f);
+    f.sonde.counters = sonde->counters;
+    bool kept = same_sonde(&f.sonde, sonde) && memcmp(volume, before, sizeof before) == 0;
+    return kept && (port == SONDE_PORT_SERIAL || f.length <= 64) ? found : WRONG;
+}
+
+/* Frames by their first bytes, with zeros behind them and a right checksum. Registers 130 to 153 are in the map, and 154 to 199 are not. */
+static const struct { const char *what; size_t length; uint8_t bytes[8]; int serial, radio; } frames[] = {
+    {"ports: 3 bytes", 3, {17}, BAD, BAD},
+    {"ports: 4 bytes", 4, {17, 3}, 3, 3},
+    {"ports: 64 bytes of another function", 64, {17, 0x44}, 1, 1},
+    {"ports: 65 bytes of another function", 65, {17, 0x44}, 1, BAD},
+    {"ports: 256 bytes of another function", 256, {17, 0x44}, 1, BAD},
+    {"ports: 257 bytes of another function", 257, {17, 0x44}, BAD, BAD},
+    {"ports: a write to 27 registers, 63 bytes", 63, {17, 16, 0, 130, 0, 27, 54}, 2, 2},
+    {"ports: a write to 28 registers, 65 bytes", 65, {17, 16, 0, 130, 0, 28, 56}, 2, BAD},
+    {"ports: a write to 28 registers that lacks a byte", 64, {17, 16, 0, 130, 0, 28, 56}, 3, 3},
+    {"ports: a write to 123 registers, 255 bytes", 255, {17, 16, 0, 130, 0, 123, 246}, 2, BAD},
+    {"ports: a write to 124 registers, 257 bytes", 257, {17, 16, 0, 130, 0, 124, 248}, BAD, BAD},
+    {"ports: another's 64 bytes", 64, {18, 3}, UNCOUNTED, UNCOUNTED},
+    {"ports: another's 65 bytes", 65, {18, 3}, UNCOUNTED, BAD},
+    {"ports: 64 bytes of function 3 at address 0", 64, {0, 3}, UNANSWERED, UNANSWERED},
+    {"ports: 65 bytes of function 3 at address 0", 65, {0, 3}, UNANSWERED, BAD},
+    {"ports: a read of 24 registers", 8, {17, 3, 0, 130, 0, 24}, ANSWERED, ANSWERED},
+    {"ports: a read of 29 registers, 5 of them absent", 8, {17, 3, 0, 130, 0, 29}, 2, 2},
+    {"ports: a read of 30 registers, 6 of them absent", 8, {17, 3, 0, 130, 0, 30}, 2, 3},
+    {"ports: a read of 29 absent registers", 8, {17, 3, 0x25, 0, 0, 29}, 2, 2},
+    {"ports: a read of 30 absent registers", 8, {17, 3, 0x25, 0, 0, 30}, 2, 3},
+    {"ports: a read of 125 absent registers", 8, {17, 3, 0x25, 0, 0, 125}, 2, 3},
+    {"ports: a read of 126 absent registers", 8, {17, 3, 0x25, 0, 0, 126}, 3, 3},
+    {"ports: a read of 0x1D1D registers", 8, {17, 3, 0, 130, 0x1D, 0x1D}, 3, 3},
+    {"ports: a read of no registers", 8, {17, 3, 0, 130, 0, 0}, 3, 3},
+    {"ports: a read of 29 registers past 0xFFFF", 8, {17, 3, 0xFF, 0xFF, 0, 29}, 2, 2},
+    {"ports: a read of 30 registers past 0xFFFF", 8, {17, 3, 0xFF, 0xFF, 0, 30}, 2, 3},
+    {"ports: a read of 29 registers at address 0", 8, {0, 3, 0, 0, 0, 29}, UNANSWERED, UNANSWERED},
+    {"ports: a read of 30 registers at address 0", 8, {0, 3, 0, 0, 0, 30}, UNANSWERED, UNANSWERED},
+    {"ports: a read of 126 registers at address 0", 8, {0, 3, 0, 0, 0, 126}, UNANSWERED, UNANSWERED},
+    {"ports: another's read of 30 registers", 8, {18, 3, 0, 0, 0, 30}, UNCOUNTED, UNCOUNTED},
+};
+
+static void within_ports(void) {
+    Sonde s = begun(volume);
+    for (size_t i = 0; i < sizeof frames / sizeof *frames; i++) {
+        uint8_t frame[257] = {0};
+        memcpy(frame, frames[i].bytes, frames[i].length < 8 ? frames[i].length : 8);
+        sealed(frame, frames[i].length - 2);
+        check(outcome_on(SONDE_PORT_SERIAL, &s, frame, frames[i].length) == frames[i].serial, frames[i].what);
+        check(outcome_on(SONDE_PORT_RADIO, &s, frame, frames[i].length) == frames[i].radio, frames[i].what);
+    }
+}
+
+/* Every read around the map: up to 29 registers the radio answers as the serial line does, and beyond them by code 3. */
+static void reads_on_both_ports(void) {
+    Sonde s = begun(volume);
+    bool same = true, refused = true;
+    size_t longest = 0;
+    for (uint16_t at = 0; at < 500; at++)
+        for (uint16_t count = 0; count < 40; count++) {
+            uint8_t frame[8] = {17, 3, (uint8_t)(at >> 8), at & 0xFF, 0, (uint8_t)count}, answer[SONDE_REPLY_BYTES];
+            sealed(frame, 6);
+            int serial = outcome_on(SONDE_PORT_SERIAL, &s, frame, sizeof frame);
+            memcpy(answer, reply, sizeof answer);
+            int radio = outcome_on(SONDE_PORT_RADIO, &s, frame, sizeof frame);
+            if (count < 30) same = same && radio == serial && radio != WRONG && memcmp(reply, answer, sizeof answer) == 0;
+            else refused = refused && radio == 3 && serial == 2;
+            if (radio == ANSWERED && count > longest) longest = count;
+        }
+    check(same, "ports: every read of up to 29 registers has one reply");
+    check(refused, "ports: every longer read is code 3 over the radio, before code 2");
+    check(longest == 24, "ports: the longest read that is answered has 24 registers");
+}
+
+/* An ASCII frame on the radio is bad whatever it holds. Its framing decides on the reply buffer all the same. */
+static void ascii_on_radio(void) {
+    static const struct { const char *what, *frame; } bad[] = {
+        {"radio: mode on in ASCII is bad", ":110600CDE0003C\r\n"},
+        {"radio: mode on in ASCII at address 0 is bad", ":000600CDE0004D\r\n"},
+        {"radio: another's ASCII frame is bad", ":120325000001C5\r\n"},
+        {"radio: a read in ASCII is bad", ":110325000001C6\r\n"},
+        {"radio: an ASCII frame with another LRC is bad", ":110325000001C7\r\n"},
+        {"radio: an RTU frame as ASCII is bad", "\x11\x03\x25\x01\x02\x03\x04"},
+    };
+    static const size_t lengths[] = {0, 255, SONDE_REPLY_BYTES, 511, SONDE_ASCII_REPLY_BYTES - 1};
+    Sonde s = begun(volume);
+    for (size_t i = 0; i < sizeof bad / sizeof *bad; i++) {
+        size_t n = strlen(bad[i].frame);
+        Sonde due = s;
+        due.counters.bad++;
+        SondeFrame f = send_frame(s, bad[i].frame, n, SONDE_ASCII_REPLY_BYTES, true, SONDE_PORT_RADIO);
+        check(f.number == SONDE_OK && f.length == 0 && rest_stays(0) && same_sonde(&f.sonde, &due), bad[i].what);
+        for (size_t k = 0; k < sizeof lengths / sizeof *lengths; k++) {
+            f = send_frame(s, bad[i].frame, n, lengths[k], true, SONDE_PORT_RADIO);
+            check(f.number == SONDE_SHORT_REPLY && f.length == 0 && rest_stays(0) && same_sonde(&f.sonde, &s),
+                  "radio: ASCII with a reply buffer of up to 512 bytes: number 3, nothing counted");
+        }
+        s = due;
+    }
+    spell(s, bad[0].frame, strlen(bad[0].frame), bad[0].frame, "radio: over the serial line the first of these is carried out");
+}
+
+/* What one port counts the other shows. */
+static void counted_together(void) {
+    Sonde s = begun(volume);
+    s = send_frame(s, BYTES(17, 3, 0, 0, 0, 1), SONDE_REPLY_BYTES, false, SONDE_PORT_RADIO).sonde;
+    s = ask(s, BYTES(17, 0x44, 1), BYTES(17, 0xC4, 1), "ports: a frame over the serial line, behind a bad one over the radio");
+    uint8_t read[8] = {17, 3, 0, 4, 0, 3};
+    size_t n = sealed(read, 6);
+    SondeFrame f = send_frame(s, read, n, SONDE_REPLY_BYTES, false, SONDE_PORT_RADIO);
+    check(f.length == 11 && memcmp(reply, "\x11\x03\x06\x00\x01\x00\x01\x00\x01", 9) == 0,
+          "ports: 1 good message, 1 bad one and 1 exception are shown over the radio");
+    ask(f.sonde, BYTES(17, 3, 0, 4, 0, 3), BYTES(17, 3, 6, 0, 2, 0, 1, 0, 1), "ports: and with that read over the serial line");
+}
+
+/* A port that there isn't: number 9, before the reply buffer, the sonde and the volume are looked at. */
+static void no_port(void) {
+    static uint16_t before[WORDS];
+    static const uint8_t ports[] = {0, 3, 255};
+    static const struct { const char *what; size_t reply_len; bool ascii; uint16_t word3; uint8_t otherwise; } calls[] = {
+        {"no port: number 9", SONDE_REPLY_BYTES, false, 0, SONDE_OK},
+        {"no port: number 9 with a longer buffer", SONDE_ASCII_REPLY_BYTES, true, 0, SONDE_OK},
+        {"no port: number 9 before number 3", SONDE_REPLY_BYTES - 1, false, 0, SONDE_SHORT_REPLY},
+        {"no port: number 9 before number 3 in ASCII", SONDE_ASCII_REPLY_BYTES - 1, true, 0, SONDE_SHORT_REPLY},
+        {"no port: number 9 before number 4", SONDE_REPLY_BYTES, false, 1, SONDE_INVALID},
+        {"no port: number 9 before numbers 3 and 4", 0, false, 1, SONDE_SHORT_REPLY},
+    };
+    Sonde s = begun(volume);
+    uint8_t frame[8] = {17, 6, 0, 205, 0xE0, 0x00}; /* mode on */
+    size_t n = sealed(frame, 6);
+    for (size_t i = 0; i < sizeof calls / sizeof *calls; i++) {
+        volume[3] = calls[i].word3;
+        memcpy(before, volume, sizeof before);
+        for (size_t k = 0; k < sizeof ports; k++) {
+            SondeFrame f = send_frame(s, frame, n, calls[i].reply_len, calls[i].ascii, ports[k]);
+            bool kept = rest_stays(0) && same_sonde(&f.sonde, &s) && memcmp(volume, before, sizeof before) == 0;
+            check(f.number == SONDE_NO_PORT && f.length == 0 && kept, calls[i].what);
+        }
+        for (uint8_t port = SONDE_PORT_SERIAL; port <= SONDE_PORT_RADIO; port++)
+            check(send_frame(s, frame, n, calls[i].reply_len, calls[i].ascii, port).number == calls[i].otherwise,
+                  "no port: on either port the call has its own number");
+    }
 }
 
 /* The slope 1.25 of the points (8, 10) and (0, 0) is outside the limits: it is shown, and nothing else changes. With y1 = 9 it is accepted. */
@@ -296,8 +500,7 @@ static void failed_update(void) {
 static Sonde tell(Sonde sonde, const uint8_t *body, size_t n, const char *what) {
     uint8_t frame[256];
     memcpy(frame, body, n);
-    memset(reply, 0xAA, sizeof reply);
-    SondeFrame f = sonde_frame(sonde, frame, sealed(frame, n), reply, SONDE_REPLY_BYTES, volume, WORDS, 0x12345678, false);
+    SondeFrame f = send_rtu(sonde, frame, sealed(frame, n), SONDE_REPLY_BYTES);
     check(f.number == SONDE_OK && f.length == 0 && rest_stays(0), what);
     return f.sonde;
 }
@@ -463,7 +666,7 @@ static void in_rounds(void) {
     request[7] = sum >> 8;
     check(summed(request, 8) == 0, "rounds: a frame with its checksum leaves 0");
     SondeMade made = sonde_begin(sonde_fresh(17).sonde, volume, WORDS);
-    SondeFrame f = sonde_frame(made.sonde, request, 8, reply, SONDE_REPLY_BYTES, volume, WORDS, 0, false);
+    SondeFrame f = send_rtu(made.sonde, request, 8, SONDE_REPLY_BYTES);
     check(f.number == SONDE_OK && f.length == 7 && memcmp(reply, "\x11\x03\x02\x00\x03", 5) == 0 && summed(reply, 7) == 0, "rounds: the reply leaves 0");
 }
 
@@ -739,6 +942,12 @@ int main(void) {
     in_rtu();
     in_ascii();
     in_both_framings();
+    on_both_ports();
+    within_ports();
+    reads_on_both_ports();
+    ascii_on_radio();
+    counted_together();
+    no_port();
     failed_update();
     technicians();
     on_paper();

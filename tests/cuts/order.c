@@ -41,7 +41,8 @@ static void fail(const char *what) {
 }
 
 static void call_frame(void) {
-    back->answered = sonde_frame(sonde, frame.bytes, frame.length, back->reply, sizeof back->reply, volume, WORDS, clock_now, false);
+    back->answered =
+        sonde_frame(sonde, frame.bytes, frame.length, back->reply, sizeof back->reply, volume, WORDS, clock_now, false, SONDE_PORT_SERIAL);
 }
 
 static void call_append(void) { sonde_append(volume, WORDS, entry, stores); }

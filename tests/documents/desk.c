@@ -5,6 +5,7 @@
  *     begin COUNT                          number; the volume has COUNT words from then on, each A5A5 before the call
  *     power-up ADDRESS                     number
  *     measure SENSOR PRESENT BITS BITS     number
+ *     port PORT                            0; the port of the frames that follow, the serial one before the first
  *     frame CLOCK BYTES                    number and the reply's bytes, in RTU
  *     ascii CLOCK BYTES                    number and the reply's characters as bytes, in ASCII
  *     load WORDS                           0; the volume is these words from then on
@@ -23,6 +24,7 @@
 static uint16_t volume[MOST];
 static uint8_t reply[SONDE_ASCII_REPLY_BYTES];
 static size_t words;
+static uint8_t port = SONDE_PORT_SERIAL;
 static Sonde sonde;
 
 /* A refused fresh or power-up doesn't count as made: the sonde before it goes on. */
@@ -60,10 +62,15 @@ static void frame(bool ascii) {
     size_t n = 0;
     for (char *byte; n < sizeof bytes && (byte = strtok(NULL, " ")) != NULL;) bytes[n++] = (uint8_t)strtoul(byte, NULL, 16);
     size_t room = ascii ? SONDE_ASCII_REPLY_BYTES : SONDE_REPLY_BYTES;
-    SondeFrame f = sonde_frame(sonde, bytes, n, reply, room, volume, words, clock, ascii);
+    SondeFrame f = sonde_frame(sonde, bytes, n, reply, room, volume, words, clock, ascii, port);
     sonde = f.sonde;
     printf("%u", f.number);
     for (size_t i = 0; i < f.length; i++) printf(" %02X", reply[i]);
+}
+
+static void set_port(void) {
+    port = (uint8_t)atoi(strtok(NULL, " "));
+    printf("0");
 }
 
 static void load(void) {
@@ -102,6 +109,7 @@ int main(void) {
         else if (strcmp(call, "begin") == 0) printf("%u", begin((size_t)atol(strtok(NULL, " "))));
         else if (strcmp(call, "power-up") == 0) printf("%u", made_by(sonde_power_up((uint8_t)atoi(strtok(NULL, " ")), volume, words)));
         else if (strcmp(call, "measure") == 0) printf("%u", measure());
+        else if (strcmp(call, "port") == 0) set_port();
         else if (strcmp(call, "frame") == 0) frame(false);
         else if (strcmp(call, "ascii") == 0) frame(true);
         else if (strcmp(call, "load") == 0) load();

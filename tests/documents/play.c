@@ -1,9 +1,9 @@
 /*
  * play DOCUMENT FILE: plays the dialogues of a document through the library: lines "    @ SECONDS" set the clock, "    > BYTES" is an RTU frame in
- * hexadecimal, "    > :DIGITS" an ASCII frame without its CR LF, and "    < BYTES" or "    < :DIGITS" its reply ("    <" alone: none). RTU frames go to one
- * sonde and ASCII frames to another, each fresh with address 1 and a volume of 136 words. Prints the volume of the RTU frames as docs/ARCHIVE.md shows
- * it, and writes it to the file as ./serve does; the exit status is 1 where a reply differs or is missing, or the document has no dialogue in one of the
- * framings.
+ * hexadecimal, "    > :DIGITS" an ASCII frame without its CR LF, and "    < BYTES" or "    < :DIGITS" its reply ("    <" alone: none). A frame by radio has
+ * ">>" and its reply "<<". RTU frames of the serial line go to one sonde, its ASCII frames to another and all frames by radio to a third, each fresh with
+ * address 1 and a volume of 136 words. Prints the volume of the first as docs/ARCHIVE.md shows it, and writes it to the file as ./serve does; the exit
+ * status is 1 where a reply differs or is missing, or the document has no dialogue for one of the sondes.
  */
 #include <stdio.h>
 #include <stdlib.h>
@@ -15,9 +15,9 @@
 #define BYTES 520
 #define UNREAD SIZE_MAX
 
-typedef struct { Sonde sonde; uint16_t volume[WORDS]; size_t played; } Side;
+typedef struct { uint8_t port; Sonde sonde; uint16_t volume[WORDS]; size_t played; } Side;
 
-static Side rtu, ascii;
+static Side rtu = {.port = SONDE_PORT_SERIAL}, ascii = {.port = SONDE_PORT_SERIAL}, radio = {.port = SONDE_PORT_RADIO};
 static uint8_t reply[SONDE_ASCII_REPLY_BYTES];
 
 /* The bytes of a line in hexadecimal, up to two spaces or its end; UNREAD where something else stands there. */
@@ -56,7 +56,7 @@ int main(int count, char **arguments) {
         fprintf(stderr, "play: give a document that can be read and a file that can be written\n");
         return 2;
     }
-    if (!begin(&rtu) || !begin(&ascii)) return 2;
+    if (!begin(&rtu) || !begin(&ascii) || !begin(&radio)) return 2;
     Side *side = NULL; /* the one that was asked and whose reply is to be compared */
     uint32_t clock = 0;
     size_t length = 0;
@@ -65,29 +65,31 @@ int main(int count, char **arguments) {
     uint8_t bytes[BYTES];
     while (fgets(line, sizeof line, document) != NULL) {
         line[strcspn(line, "\n")] = 0;
-        const char *text = line + 5;
-        if (strncmp(line, "    @", 5) == 0) clock = (uint32_t)strtoul(text, NULL, 10);
-        if (strncmp(line, "    >", 5) == 0) {
+        char mark = strncmp(line, "    ", 4) == 0 ? line[4] : 0;
+        bool by_radio = mark != 0 && line[5] == mark;
+        const char *text = line + 5 + by_radio;
+        if (mark == '@') clock = (uint32_t)strtoul(text, NULL, 10);
+        if (mark == '>') {
             if (side != NULL) {
                 fprintf(stderr, "play: no reply is written before: %s\n", line);
                 differs = 1;
             }
             bool is_ascii = strncmp(text, " :", 2) == 0;
-            side = is_ascii ? &ascii : &rtu;
+            side = by_radio ? &radio : is_ascii ? &ascii : &rtu;
             size_t n = is_ascii ? characters_of(text, bytes) : bytes_of(text, bytes);
             if (n == UNREAD) {
                 fprintf(stderr, "play: neither an RTU nor an ASCII frame: %s\n", line);
                 return 1;
             }
-            SondeFrame f =
-                sonde_frame(side->sonde, bytes, n, reply, is_ascii ? sizeof reply : SONDE_REPLY_BYTES, side->volume, WORDS, clock, is_ascii);
+            size_t room = is_ascii ? sizeof reply : SONDE_REPLY_BYTES;
+            SondeFrame f = sonde_frame(side->sonde, bytes, n, reply, room, side->volume, WORDS, clock, is_ascii, side->port);
             if (f.number != SONDE_OK) differs = 1;
             side->sonde = f.sonde;
             length = f.length;
         }
-        if (strncmp(line, "    <", 5) == 0) {
+        if (mark == '<') {
             size_t n = side == &ascii ? characters_of(text, bytes) : bytes_of(text, bytes);
-            if (side == NULL || n != length || memcmp(bytes, reply, length) != 0) {
+            if (side == NULL || by_radio != (side == &radio) || n != length || memcmp(bytes, reply, length) != 0) {
                 fprintf(stderr, "play: the reply differs: %s\n", line);
                 differs = 1;
             }
@@ -99,9 +101,10 @@ int main(int count, char **arguments) {
     if (side != NULL) differs = 1;
     if (sonde_audit(rtu.sonde, rtu.volume, WORDS).number != SONDE_OK) differs = 1;
     if (sonde_audit(ascii.sonde, ascii.volume, WORDS).number != SONDE_OK) differs = 1;
+    if (sonde_audit(radio.sonde, radio.volume, WORDS).number != SONDE_OK) differs = 1;
     for (int i = 0; i < WORDS; i++) fprintf(file, "%c%c", rtu.volume[i] >> 8, rtu.volume[i] & 0xFF);
     if (fclose(file) != 0) return 2;
     for (int i = 0; i < WORDS; i++) printf("%s%04X%s", i % 8 == 0 ? "    " : " ", rtu.volume[i], i % 8 == 7 ? "\n" : "");
-    fprintf(stderr, "play: %zu replies compared in RTU and %zu in ASCII\n", rtu.played, ascii.played);
-    return differs || rtu.played == 0 || ascii.played == 0;
+    fprintf(stderr, "play: %zu replies compared in RTU, %zu in ASCII and %zu by radio\n", rtu.played, ascii.played, radio.played);
+    return differs || rtu.played == 0 || ascii.played == 0 || radio.played == 0;
 }

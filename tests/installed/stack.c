@@ -1,7 +1,7 @@
 /*
  * The stack that the calls take, their arguments and results included. Each call is made on a painted stack of its own, and the paint that is gone
  * is counted: over the life of a sonde whose journal fills up to 1000 entries, with the longest read (24 registers), the longest frame and a bad
- * one, in RTU and in ASCII; the last entry is then appended again, cut after each of its stores and salvaged.
+ * one, in RTU, in ASCII and over the radio; the last entry is then appended again, cut after each of its stores and salvaged.
  *
  *     stack BOUND
  *
@@ -23,7 +23,7 @@ static ucontext_t host, call;
 static uint16_t volume[WORDS];
 static uint8_t frame[600], reply[SONDE_ASCII_REPLY_BYTES];
 static size_t frame_len;
-static bool ascii;
+static struct Way { bool ascii; uint8_t port, most; } way; /* how a frame comes, and the longest body that comes so */
 static uint32_t clock_now;
 static Sonde sonde;
 static SondeMade made;
@@ -56,8 +56,8 @@ static void call_begin(void) { made = sonde_begin(sonde, volume, WORDS); }
 static void call_power_up(void) { made = sonde_power_up(1, volume, WORDS); }
 static void call_measure(void) { made = sonde_measure(sonde, 1, true, 1000.0f, 20.0f); }
 static void call_frame(void) {
-    size_t reply_len = ascii ? SONDE_ASCII_REPLY_BYTES : SONDE_REPLY_BYTES;
-    answer = sonde_frame(sonde, frame, frame_len, reply, reply_len, volume, WORDS, clock_now, ascii);
+    size_t reply_len = way.ascii ? SONDE_ASCII_REPLY_BYTES : SONDE_REPLY_BYTES;
+    answer = sonde_frame(sonde, frame, frame_len, reply, reply_len, volume, WORDS, clock_now, way.ascii, way.port);
 }
 static void call_audit(void) { audit = sonde_audit(sonde, volume, WORDS); }
 static void call_print(void) { printed = sonde_print(volume, WORDS, page, sizeof page); }
@@ -121,19 +121,23 @@ static void seal_ascii(const uint8_t *body, size_t n) {
 static bool answered(uint8_t function) {
     char digits[3];
     sprintf(digits, "%02X", function);
-    return answer.length > 0 && (ascii ? memcmp(reply + 3, digits, 2) == 0 : reply[1] == function);
+    return answer.length > 0 && (way.ascii ? memcmp(reply + 3, digits, 2) == 0 : reply[1] == function);
 }
 
-/* Sends a body in the framing of `ascii`. */
-static void ask(const uint8_t *body, size_t n, uint8_t function) {
-    if (ascii) seal_ascii(body, n);
+/* The frame of a body, in the framing of `way`. */
+static void seal(const uint8_t *body, size_t n) {
+    if (way.ascii) seal_ascii(body, n);
     else seal_rtu(body, n);
+}
+
+static void ask(const uint8_t *body, size_t n, uint8_t function) {
+    seal(body, n);
     measured(FRAME);
     expect(answer.number == SONDE_OK && answered(function), "a frame's reply");
     sonde = answer.sonde;
 }
 
-/* Sends a frame that breaks its form. */
+/* Sends a frame that its port doesn't take. */
 static void ask_bad(void) {
     uint16_t bad = sonde.counters.bad;
     measured(FRAME);
@@ -143,16 +147,38 @@ static void ask_bad(void) {
 
 static const uint8_t mode_on[] = {1, 6, 0, 205, 0xE0, 0x00}, update[] = {1, 6, 0, 205, 0xE0, 0x01},
                      longest_read[] = {1, 3, 0, 130, 0, 24};
-static const uint8_t longest[254] = {1, 16, 0, 100, 0, 123, 246}; /* with a byte too many: code 3 */
+static const uint8_t longest[254] = {1, 16, 0, 100, 0, 123, 246}; /* of another length than its count has: code 3 */
+
+static const struct Way ways[] = {
+    {false, SONDE_PORT_SERIAL, sizeof longest}, {true, SONDE_PORT_SERIAL, sizeof longest}, {false, SONDE_PORT_RADIO, 62},
+};
+#define WAYS (sizeof ways / sizeof *ways)
 
 /* The longest read, the longest frame, and the same with its last digit or byte changed, and with a byte less. */
 static void ask_longest(void) {
     ask(longest_read, sizeof longest_read, 3);
-    ask(longest, sizeof longest, 0x90);
-    frame[frame_len - (ascii ? 3 : 1)] ^= 1;
+    ask(longest, way.most, 0x90);
+    frame[frame_len - (way.ascii ? 3 : 1)] ^= 1;
     ask_bad();
     frame_len--;
     ask_bad();
+}
+
+/* The longest frames of the serial line, over the radio. */
+static void ask_beyond_radio(void) {
+    for (int i = 0; i < 2; i++) {
+        way = (struct Way){i == 1, SONDE_PORT_RADIO, sizeof longest};
+        seal(longest, sizeof longest);
+        ask_bad();
+    }
+}
+
+static void ask_all_ways(void) {
+    for (size_t i = 0; i < WAYS; i++) {
+        way = ways[i];
+        ask_longest();
+    }
+    ask_beyond_radio();
 }
 
 /* A salvage that changes so many words. */
@@ -184,16 +210,17 @@ int main(int argc, char **argv) {
     make(FRESH);
     make(BEGIN);
     make(MEASURE);
+    way = ways[0];
     ask(mode_on, sizeof mode_on, 6);
     for (clock_now = 1; clock_now <= 1000; clock_now++) {
-        ascii = clock_now % 2 == 0;
+        way = ways[clock_now % WAYS];
         ask(update, sizeof update, 6);
     }
-    for (int i = 0; i < 2; i++) {
-        ascii = i == 1;
+    for (size_t i = 0; i < WAYS; i++) {
+        way = ways[i];
         ask(update, sizeof update, 0x86); /* the journal is full */
-        ask_longest();
     }
+    ask_all_ways();
     cut_and_salvage();
     measured(AUDIT);
     expect(audit.number == SONDE_OK && audit.entries == 1000, "the audit of 1000 entries");
@@ -204,10 +231,7 @@ int main(int argc, char **argv) {
     expect(sum == 0xF595, "a round of the CRC");
     make(MEASURE);
     make(POWER_UP);
-    for (int i = 0; i < 2; i++) {
-        ascii = i == 1;
-        ask_longest();
-    }
+    ask_all_ways();
     for (int i = 0; i < CALLS; i++) {
         printf("%-15s %5zu\n", calls[i].name, most[i]);
         if (most[i] > deepest) deepest = most[i];

@@ -25,19 +25,23 @@ fn stop(_: &PanicInfo) -> ! {
 #[no_mangle]
 extern "C" fn rust_eh_personality() {}
 
-/// The map's version, read over a frame from a sonde that was powered up from its journal.
-fn reply<'a>(frame: &[u8], buffer: &'a mut [u8], arrival: Arrival) -> Result<&'a [u8], Error> {
+/// Whether a sonde that was powered up from its journal answers a frame so.
+fn answers(frame: &[u8], arrival: Arrival, due: &[u8]) -> Result<bool, Error> {
     let mut volume = [0; 88];
     Sonde::fresh(1)?.begin(&mut volume)?;
     let mut sonde = Sonde::power_up(1, &volume)?;
     sonde.measure(1, Some((1000.0, 21.5)))?;
-    sonde.frame(frame, buffer, &mut volume, arrival)
+    Ok(sonde.frame(frame, &mut [0; ASCII_REPLY_BYTES], &mut volume, arrival)? == due)
 }
 
-fn is_answered() -> bool {
-    let mut buffer = [0; ASCII_REPLY_BYTES];
-    let rtu = reply(&[1, 3, 0, 0, 0, 1, 0x84, 0x0A], &mut buffer, Arrival::rtu(0)) == Ok(&[1, 3, 2, 0, 3, 0xF8, 0x45]);
-    rtu && reply(b":010300000001FB\r\n", &mut buffer, Arrival::ascii(0)) == Ok(b":0103020003F7\r\n")
+/// The map's version is read in either framing and over the radio, which doesn't take a read of 30 registers.
+fn is_answered() -> Result<bool, Error> {
+    let (read, version) = ([1, 3, 0, 0, 0, 1, 0x84, 0x0A], [1, 3, 2, 0, 3, 0xF8, 0x45]);
+    let longer = [1, 3, 0, 130, 0, 30, 0x65, 0xEA];
+    Ok(answers(&read, Arrival::rtu(0), &version)?
+        && answers(b":010300000001FB\r\n", Arrival::ascii(0), b":0103020003F7\r\n")?
+        && answers(&read, Arrival::radio(0), &version)?
+        && answers(&longer, Arrival::radio(0), &[1, 0x83, 3, 0x01, 0x31])?)
 }
 
 /// The opening of sensor 3, on the page of a journal without entries.
@@ -83,7 +87,7 @@ fn is_summed() -> bool {
 #[no_mangle]
 pub extern "C" fn main() -> c_int {
     let refused = Sonde::fresh(0).map(|_| ()).unwrap_err();
-    let right = is_answered() && is_printed() == Ok(true) && is_salvaged() == Ok(true) && is_summed();
+    let right = is_answered() == Ok(true) && is_printed() == Ok(true) && is_salvaged() == Ok(true) && is_summed();
     if refused != Error::BadAddress || refused.source().is_some() || !right {
         return 1;
     }

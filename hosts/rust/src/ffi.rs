@@ -167,6 +167,7 @@ extern "C" {
         words: usize,
         clock: u32,
         ascii: bool,
+        port: u8,
     ) -> Frame;
     pub fn sonde_audit(sonde: Sonde, volume: *const u16, words: usize) -> Audit;
     pub fn sonde_print(volume: *const u16, words: usize, page: *mut u8, page_len: usize) -> Print;

@@ -49,6 +49,40 @@
 //! # Ok::<(), sonde::Error>(())
 //! ```
 //!
+//! # The radio bridge
+//!
+//! The bridge carries 64 bytes. On it a longer frame and an ASCII frame count bad and get no reply, and a read of more than 29 registers is
+//! exception 3. The buffer for the reply is the same as on the serial line:
+//!
+//! ```
+//! use sonde::{Arrival, Sonde, REPLY_BYTES};
+//!
+//! let mut volume = [0; 88];
+//! let mut sonde = Sonde::fresh(1)?;
+//! sonde.begin(&mut volume)?;
+//! let mut buffer = [0; REPLY_BYTES];
+//!
+//! // 30 registers from 130 on, of which the last six aren't in the map: exception 3 on the radio, and 2 on the serial line.
+//! let read = [1, 3, 0, 130, 0, 30, 0x65, 0xEA];
+//! let reply = sonde.frame(&read, &mut buffer, &mut volume, Arrival::radio(0))?;
+//! assert_eq!(reply, [1, 0x83, 3, 0x01, 0x31]);
+//! let reply = sonde.frame(&read, &mut buffer, &mut volume, Arrival::rtu(0))?;
+//! assert_eq!(reply, [1, 0x83, 2, 0xC0, 0xF1]);
+//!
+//! // A write to 28 registers has 65 bytes: bad on the radio, and exception 2 on the serial line.
+//! let mut write = [0; 65];
+//! write[..7].copy_from_slice(&[1, 16, 0, 130, 0, 28, 56]);
+//! write[63..].copy_from_slice(&[0x56, 0x65]);
+//! assert!(sonde.frame(&write, &mut buffer, &mut volume, Arrival::radio(0))?.is_empty());
+//! let reply = sonde.frame(&write, &mut buffer, &mut volume, Arrival::rtu(0))?;
+//! assert_eq!(reply, [1, 0x90, 2, 0xCD, 0xC1]);
+//!
+//! // Both ports count together: 3 good messages, 1 bad one and 3 exceptions.
+//! let reply = sonde.frame(&[1, 3, 0, 4, 0, 3, 0x44, 0x0A], &mut buffer, &mut volume, Arrival::radio(0))?;
+//! assert_eq!(reply[..9], [1, 3, 6, 0, 3, 0, 1, 0, 3]);
+//! # Ok::<(), sonde::Error>(())
+//! ```
+//!
 //! # Linking
 //!
 //! The library is for x86-64. It is looked for in the folder that the environment variable `SONDE_LIB_DIR` names, by its path from the root
@@ -71,7 +105,7 @@ pub mod ffi;
 
 pub use ffi::{Calibration, Entry, Points};
 
-/// The least reply buffer for an RTU frame; a reply is never longer.
+/// The least reply buffer for an RTU frame, on either port; a reply is never longer.
 pub const REPLY_BYTES: usize = 256;
 /// The least reply buffer for an ASCII frame; the longest reply has 511 characters.
 pub const ASCII_REPLY_BYTES: usize = 513;
@@ -121,6 +155,8 @@ pub enum Error {
     ShortPage = 7,
     /// Salvage: the volume has a fault that no choice of its chain words makes valid.
     BeyondSalvage = 8,
+    /// Frame, by the C call alone: the port isn't 1 or 2, as every [`Port`] is.
+    NoPort = 9,
 }
 
 impl fmt::Display for Error {
@@ -134,6 +170,7 @@ impl fmt::Display for Error {
             Error::NotFinite => "a raw value is not finite",
             Error::ShortPage => "the page is too short for all lines of the journal",
             Error::BeyondSalvage => "the volume has a fault that no choice of its chain words mends",
+            Error::NoPort => "the port is not 1 or 2",
         })
     }
 }
@@ -152,6 +189,7 @@ fn done(number: u8) -> Result<(), Error> {
         6 => Err(Error::NotFinite),
         7 => Err(Error::ShortPage),
         8 => Err(Error::BeyondSalvage),
+        9 => Err(Error::NoPort),
         _ => panic!("the library gave the number {number}, which this crate doesn't know"),
     }
 }
@@ -175,28 +213,51 @@ impl Framing {
     }
 }
 
+/// Where a frame came from, and where its reply goes. Both ports share the sonde, its counters and its volume.
+#[derive(Clone, Copy, Debug, PartialEq, Eq, Hash)]
+#[repr(u8)]
+pub enum Port {
+    /// The serial line: frames of either framing, and reads of up to 125 registers.
+    Serial = 1,
+    /// The radio bridge: RTU frames of up to 64 bytes, and reads of up to 29 registers; no reply has more than 64 bytes. A longer frame and every
+    /// ASCII frame counts bad and gets no reply, whatever its address.
+    Radio = 2,
+}
+
 /// When and how a frame came.
 #[derive(Clone, Copy, Debug, PartialEq, Eq, Hash)]
 pub struct Arrival {
     /// Whole seconds.
     pub clock: u32,
     pub framing: Framing,
+    pub port: Port,
 }
 
 impl Arrival {
-    /// An RTU frame at this clock.
+    /// An RTU frame on the serial line at this clock.
     pub const fn rtu(clock: u32) -> Arrival {
         Arrival {
             clock,
             framing: Framing::Rtu,
+            port: Port::Serial,
         }
     }
 
-    /// An ASCII frame at this clock.
+    /// An ASCII frame on the serial line at this clock.
     pub const fn ascii(clock: u32) -> Arrival {
         Arrival {
             clock,
             framing: Framing::Ascii,
+            port: Port::Serial,
+        }
+    }
+
+    /// An RTU frame on the radio at this clock.
+    pub const fn radio(clock: u32) -> Arrival {
+        Arrival {
+            clock,
+            framing: Framing::Rtu,
+            port: Port::Radio,
         }
     }
 }
@@ -321,6 +382,7 @@ impl Sonde {
                 volume.len(),
                 arrival.clock,
                 arrival.framing == Framing::Ascii,
+                arrival.port as u8,
             )
         };
         self.0 = answer.sonde;
@@ -479,4 +541,17 @@ pub fn salvage(volume: &mut [u16]) -> Result<u16, Error> {
 pub fn crc_round(sum: u16, word: u16) -> u16 {
     // SAFETY: a call by value alone.
     unsafe { ffi::sonde_crc_round(sum, word) }
+}
+
+#[cfg(test)]
+mod tests {
+    use super::*;
+
+    #[test]
+    fn each_number_is_its_error() {
+        assert_eq!(done(0), Ok(()));
+        for number in 1..=9 {
+            assert_eq!(done(number).unwrap_err() as u8, number);
+        }
+    }
 }

@@ -1,7 +1,8 @@
 //! The structs of the C interface have one layout in three places: the library's own source, `include/sonde.h`, and `sonde::ffi`. Sizes and
-//! offsets are compared; then each field is set, and the library is asked what its registers show.
+//! offsets are compared; then each field is set, and the library is asked what its registers show. At last the crate's ports are held to the
+//! library's.
 
-use sonde::ffi;
+use sonde::{ffi, Error, Port};
 use std::collections::BTreeMap;
 use std::fmt::Write as _;
 use std::fs;
@@ -194,14 +195,11 @@ fn crc(bytes: &[u8]) -> u16 {
     })
 }
 
-/// The registers that a sonde shows from `start` on, beside a volume that begins with it.
-fn registers(sonde: ffi::Sonde, start: u16, count: u16) -> Vec<u16> {
+/// What comes of an RTU frame, beside a volume that begins with the sonde.
+fn answered(sonde: ffi::Sonde, frame: &[u8], reply: &mut [u8], port: u8) -> ffi::Frame {
     let mut volume = [0u16; 112];
-    let mut reply = [0u8; 256];
-    let body = [&[sonde.address, 3][..], &start.to_be_bytes(), &count.to_be_bytes()].concat();
-    let frame = [&body[..], &crc(&body).to_le_bytes()].concat();
-    // SAFETY: each pointer is of an array, with its length.
-    let answer = unsafe {
+    // SAFETY: each pointer is of an array or a slice, with its length.
+    unsafe {
         let begun = ffi::sonde_begin(sonde, volume.as_mut_ptr(), volume.len());
         assert_eq!(begun.number, 0);
         assert_eq!(format!("{:?}", begun.sonde), format!("{sonde:?}"));
@@ -215,8 +213,17 @@ fn registers(sonde: ffi::Sonde, start: u16, count: u16) -> Vec<u16> {
             volume.len(),
             0,
             false,
+            port,
         )
-    };
+    }
+}
+
+/// The registers that a sonde shows from `start` on.
+fn registers(sonde: ffi::Sonde, start: u16, count: u16) -> Vec<u16> {
+    let mut reply = [0u8; 256];
+    let body = [&[sonde.address, 3][..], &start.to_be_bytes(), &count.to_be_bytes()].concat();
+    let frame = [&body[..], &crc(&body).to_le_bytes()].concat();
+    let answer = answered(sonde, &frame, &mut reply, Port::Serial as u8);
     assert_eq!(
         (answer.number, answer.length, reply[0], reply[1]),
         (0, 5 + 2 * count, sonde.address, 3)
@@ -343,4 +350,15 @@ fn parameters_and_samples_are_read_where_they_stand() {
         registers(sonde, 430, 2),
         words(sonde.sensors[3].setup.parameters.parameter1.sentinel.to_bits())
     );
+}
+
+// ---- the ports
+
+#[test]
+fn the_library_knows_the_crates_ports_and_no_other() {
+    for port in 0..=255 {
+        let known = port == Port::Serial as u8 || port == Port::Radio as u8;
+        let due = if known { 0 } else { Error::NoPort as u8 };
+        assert_eq!(answered(telling(false), &[], &mut [0; 256], port).number, due, "port {port}");
+    }
 }
