@@ -3,7 +3,9 @@
 use crate::sides::Side;
 
 pub enum Work {
+    /// On the serial port.
     Frame(Vec<u8>),
+    Radio(Vec<u8>),
     Ascii(Vec<u8>),
     /// Accepted calibrations, `UPDATES` to a journal.
     Update,
@@ -126,6 +128,7 @@ pub fn rows() -> Vec<Row> {
         ));
     }
     rows.extend(ascii_rows());
+    rows.extend(radio_rows());
     rows.push(row("print, 1000 entries", 1000, Work::Print, false));
     for length in LENGTHS {
         let frame = bad(&body_of(length - 2));
@@ -147,6 +150,15 @@ fn ascii_rows() -> [Row; 5] {
         (ASCII_LONG, bad_ascii(&body_of(253))),
     ];
     frames.map(|(name, frame)| row(name, 0, Work::Ascii(frame), false))
+}
+
+/// The longest run of registers, which is shorter than the radio's longest read, and that read, which has to name absent ones.
+fn radio_rows() -> [Row; 2] {
+    let reads = [
+        ("radio: read of 24 registers, the longest", 24),
+        ("radio: read of 29 registers, code 2", 29),
+    ];
+    reads.map(|(name, count)| row(name, 0, Work::Radio(words(3, 130, count)), false))
 }
 
 impl Row {
@@ -174,6 +186,9 @@ impl Row {
         match &self.work {
             Work::Frame(frame) => (0..calls).for_each(|_| {
                 std::hint::black_box(side.rtu(std::hint::black_box(frame)));
+            }),
+            Work::Radio(frame) => (0..calls).for_each(|_| {
+                std::hint::black_box(side.radio(std::hint::black_box(frame)));
             }),
             Work::Ascii(frame) => (0..calls).for_each(|_| {
                 std::hint::black_box(side.ascii(std::hint::black_box(frame)));

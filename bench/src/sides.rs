@@ -1,15 +1,16 @@
 //! Who answers: the proved library, the second implementation, libmodbus. Each keeps its own sonde and volume.
 
 use sonde::{Arrival, Sonde};
-use twin::Framing;
 
 /// At this clock.
 const CLOCK: u32 = 1_700_000_000;
 
 pub trait Side {
-    /// An RTU frame; the length of the reply.
+    /// An RTU frame on the serial port; the length of the reply.
     fn rtu(&mut self, frame: &[u8]) -> usize;
-    /// An ASCII frame; the length of the reply.
+    /// An RTU frame on the radio; the length of the reply.
+    fn radio(&mut self, frame: &[u8]) -> usize;
+    /// An ASCII frame on the serial port; the length of the reply.
     fn ascii(&mut self, frame: &[u8]) -> usize;
     /// A journal without entries.
     fn begin(&mut self);
@@ -41,12 +42,20 @@ impl Library {
         side.begin();
         side
     }
+
+    fn answer(&mut self, frame: &[u8], arrival: Arrival) -> usize {
+        let reply = self.sonde.frame(frame, &mut self.reply, &mut self.volume, arrival);
+        reply.expect("no number").len()
+    }
 }
 
 impl Side for Library {
     fn rtu(&mut self, frame: &[u8]) -> usize {
-        let reply = self.sonde.frame(frame, &mut self.reply, &mut self.volume, Arrival::rtu(CLOCK));
-        reply.expect("no number").len()
+        self.answer(frame, Arrival::rtu(CLOCK))
+    }
+
+    fn radio(&mut self, frame: &[u8]) -> usize {
+        self.answer(frame, Arrival::radio(CLOCK))
     }
 
     fn ascii(&mut self, frame: &[u8]) -> usize {
@@ -93,18 +102,26 @@ impl Twin {
         side.begin();
         side
     }
+
+    fn answer(&mut self, frame: &[u8], arrival: twin::Arrival) -> usize {
+        let (number, length) = twin::frame(&mut self.sonde, frame, &mut self.reply, &mut self.volume, arrival);
+        assert_eq!(number, 0);
+        length.into()
+    }
 }
 
 impl Side for Twin {
     fn rtu(&mut self, frame: &[u8]) -> usize {
-        let (number, length) = twin::frame(&mut self.sonde, frame, &mut self.reply, &mut self.volume, CLOCK, Framing::Rtu);
-        assert_eq!(number, 0);
-        length.into()
+        self.answer(frame, twin::Arrival::rtu(CLOCK))
+    }
+
+    fn radio(&mut self, frame: &[u8]) -> usize {
+        self.answer(frame, twin::Arrival::radio(CLOCK))
     }
 
     fn ascii(&mut self, frame: &[u8]) -> usize {
-        let reply = &mut self.ascii_reply;
-        let (number, length) = twin::frame(&mut self.sonde, frame, reply, &mut self.volume, CLOCK, Framing::Ascii);
+        let (reply, arrival) = (&mut self.ascii_reply, twin::Arrival::ascii(CLOCK));
+        let (number, length) = twin::frame(&mut self.sonde, frame, reply, &mut self.volume, arrival);
         assert_eq!(number, 0);
         length.into()
     }
@@ -132,7 +149,7 @@ impl Side for Twin {
     }
 }
 
-/// libmodbus' server on 500 registers in memory. It has no journal and no ASCII.
+/// libmodbus' server on 500 registers in memory. It has no journal, no ASCII and no radio.
 #[cfg(libmodbus)]
 pub struct LibModbus;
 
@@ -146,6 +163,10 @@ impl Side for LibModbus {
     fn rtu(&mut self, frame: &[u8]) -> usize {
         // SAFETY: the slice is valid for its length, and one thread calls.
         unsafe { line_frame(frame.as_ptr(), frame.len()) }
+    }
+
+    fn radio(&mut self, _frame: &[u8]) -> usize {
+        unreachable!("libmodbus takes no part in rows of the radio")
     }
 
     fn ascii(&mut self, _frame: &[u8]) -> usize {

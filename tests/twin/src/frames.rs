@@ -4,6 +4,7 @@
 use crate::calibration::{candidate, listed_method, within_limits, Coefficients, DIRECT};
 use crate::floats::{all_finite, join, split};
 use crate::map::{locate, Access, Field, Owner, Place, ENTER, LEAVE, LEVEL_IDS, PARAMETERS, UPDATE};
+use crate::port::Port;
 use crate::readings::reading;
 use crate::state::{SensorSettings, Settings, Sonde};
 use crate::volume::Entry;
@@ -77,8 +78,8 @@ pub enum SensorChange {
     Update(Coefficients),
 }
 
-/// Judges a request by the settings as they are; `full` is whether the journal has no room.
-pub fn judge(address: u8, settings: &Settings, full: bool, body: &[u8]) -> Verdict {
+/// Judges a request that came by this port, by the settings as they are; `full` is whether the journal has no room.
+pub fn judge(address: u8, settings: &Settings, full: bool, port: Port, body: &[u8]) -> Verdict {
     let (to, function) = (body[0], body[1]);
     if to != BROADCAST && to != address {
         return Verdict::Foreign;
@@ -87,7 +88,7 @@ pub fn judge(address: u8, settings: &Settings, full: bool, body: &[u8]) -> Verdi
         return Verdict::Ignored;
     }
     let judged = match function {
-        READ => judge_read(body),
+        READ => judge_read(body, port.limits().read_most),
         WRITE_ONE | WRITE_MANY | MASK => judge_write(settings, full, body),
         _ => Err(ILLEGAL_FUNCTION),
     };
@@ -99,12 +100,12 @@ fn word(body: &[u8], at: usize) -> u16 {
     u16::from_be_bytes([body[at], body[at + 1]])
 }
 
-fn judge_read(body: &[u8]) -> Result<Verdict, u8> {
+fn judge_read(body: &[u8], most: u16) -> Result<Verdict, u8> {
     if body.len() != 6 {
         return Err(ILLEGAL_SHAPE);
     }
     let (start, count) = (word(body, 2), word(body, 4));
-    if !(1..=125).contains(&count) {
+    if !(1..=most).contains(&count) {
         return Err(ILLEGAL_SHAPE);
     }
     all_present(start, count)?;

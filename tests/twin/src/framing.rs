@@ -1,5 +1,6 @@
 //! How a frame carries its body: address, function and data. What follows from a body is the same in either framing.
 
+use crate::port::Port;
 use crate::{ascii, rtu};
 
 #[derive(Clone, Copy, Debug, PartialEq, Eq, PartialOrd, Ord)]
@@ -20,11 +21,13 @@ impl Framing {
         }
     }
 
-    /// The body that a frame carries, 2 to 254 bytes; `None` for a bad frame.
-    pub fn body<'a>(self, frame: &'a [u8], room: &'a mut Room) -> Option<&'a [u8]> {
+    /// The body that a frame by this port carries, 2 to 254 bytes; `None` for a bad frame.
+    pub fn body<'a>(self, frame: &'a [u8], port: Port, room: &'a mut Room) -> Option<&'a [u8]> {
+        let limits = port.limits();
         match self {
-            Framing::Rtu => rtu::body(frame),
-            Framing::Ascii => ascii::body(frame, room.insert([0; ascii::DECODED_MOST])),
+            Framing::Rtu => rtu::body(frame, limits.frame_most),
+            Framing::Ascii if limits.ascii => ascii::body(frame, room.insert([0; ascii::DECODED_MOST])),
+            Framing::Ascii => None,
         }
     }
 

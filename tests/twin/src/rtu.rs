@@ -2,9 +2,9 @@
 
 use crate::crc::crc;
 
-/// The body of a frame; `None` for a bad one.
-pub fn body(frame: &[u8]) -> Option<&[u8]> {
-    if !(4..=256).contains(&frame.len()) {
+/// The body of a frame of at most so many bytes; `None` for a bad one.
+pub fn body(frame: &[u8], most: usize) -> Option<&[u8]> {
+    if !(4..=most).contains(&frame.len()) {
         return None;
     }
     let (body, checksum) = frame.split_at(frame.len() - 2);

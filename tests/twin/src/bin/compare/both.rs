@@ -8,9 +8,9 @@ use crate::cuts;
 use crate::library;
 use crate::random::Random;
 use sonde::ffi;
-use twin::framing::{Framing, Room};
+use twin::framing::Room;
 use twin::page::LINE_BYTES;
-use twin::Sonde;
+use twin::{Arrival, Port, Sonde};
 
 /// The sonde and the volume, of either implementation.
 #[derive(Clone)]
@@ -258,17 +258,16 @@ impl Comparison {
         self.twin_reply.copy_from_slice(&self.poison);
         self.library_reply.copy_from_slice(&self.poison);
         let Request {
-            framing,
+            arrival,
             ref bytes,
             reply,
             words,
-            clock,
             ..
         } = *request;
         let volume = &mut both.twin_volume[..words];
-        let (number, length) = twin::frame(&mut both.twin, bytes, &mut self.twin_reply[..reply], volume, clock, framing);
+        let (number, length) = twin::frame(&mut both.twin, bytes, &mut self.twin_reply[..reply], volume, arrival);
         let volume = &mut both.library_volume[..words];
-        let library = library::frame(both.library, bytes, &mut self.library_reply[..reply], volume, clock, framing);
+        let library = library::frame(both.library, bytes, &mut self.library_reply[..reply], volume, arrival);
         both.library = library.sonde;
         let answer = agree(Answer::new(number, length), Answer::new(library.number, library.length))?;
         differ_bytes(&format!("the reply buffer ({answer:?})"), &self.twin_reply, &self.library_reply)?;
@@ -279,16 +278,17 @@ impl Comparison {
         Ok(answer)
     }
 
-    /// The one fact on framings: sends what a frame carries in either framing to copies of both, each with a reply buffer that is long enough,
-    /// and compares number, sonde, volume and the reply's body. Whether the frame is a good one, so that it carries something.
+    /// The one fact on framings: sends what a frame carries in either framing to copies of both, on the serial port and each with a reply buffer
+    /// that is long enough, and compares number, sonde, volume and the reply's body. Whether the frame is a good one there, so that it carries
+    /// something.
     pub fn in_both_framings(&mut self, both: &Both, request: &Request, random: &mut Random) -> Result<bool, String> {
-        let mut room = Room::None;
-        let Some(body) = request.framing.body(&request.bytes, &mut room) else {
+        let (Arrival { clock, framing, .. }, mut room) = (request.arrival, Room::None);
+        let Some(body) = framing.body(&request.bytes, Port::Serial, &mut room) else {
             return Ok(false);
         };
         let (mut after_rtu, mut after_ascii) = (both.clone(), both.clone());
-        let (rtu_answer, rtu_reply) = self.in_framing(&mut after_rtu, request, body, Framing::Rtu, random)?;
-        let (ascii_answer, ascii_reply) = self.in_framing(&mut after_ascii, request, body, Framing::Ascii, random)?;
+        let (rtu_answer, rtu_reply) = self.on_serial(&mut after_rtu, request, body, Arrival::rtu(clock), random)?;
+        let (ascii_answer, ascii_reply) = self.on_serial(&mut after_ascii, request, body, Arrival::ascii(clock), random)?;
         let due = rtu_reply
             .split_last_chunk::<2>()
             .map_or(Vec::new(), |(body, _)| breach::ascii(body));
@@ -306,17 +306,18 @@ impl Comparison {
         Ok(true)
     }
 
-    /// The answer and the reply to a body in this framing.
-    fn in_framing(
+    /// The answer and the reply to a body that comes so.
+    fn on_serial(
         &mut self,
         both: &mut Both,
         request: &Request,
         body: &[u8],
-        framing: Framing,
+        arrival: Arrival,
         random: &mut Random,
     ) -> Result<(Answer, Vec<u8>), String> {
+        let framing = arrival.framing;
         let sent = Request {
-            framing,
+            arrival,
             bytes: breach::sealed(framing, body),
             reply: random.between(framing.reply_least(), REPLY_MOST),
             ..*request
@@ -336,11 +337,11 @@ impl Comparison {
         self.library_words.extend(&both.library_volume);
         let (clock, words) = (random.long(), both.lent);
         for (start, count) in RUNS {
-            let (bytes, framing) = (read_request(twin.address, start, count), Framing::Rtu);
+            let (bytes, arrival) = (read_request(twin.address, start, count), Arrival::rtu(clock));
             let volume = &mut self.twin_words[..words];
-            let (number, length) = twin::frame(&mut twin, &bytes, &mut self.twin_reply, volume, clock, framing);
+            let (number, length) = twin::frame(&mut twin, &bytes, &mut self.twin_reply, volume, arrival);
             let volume = &mut self.library_words[..words];
-            let answer = library::frame(library, &bytes, &mut self.library_reply, volume, clock, framing);
+            let answer = library::frame(library, &bytes, &mut self.library_reply, volume, arrival);
             library = answer.sonde;
             let failed = |difference| format!("read back, {count} registers from {start}: {difference}");
             agree(Answer::new(number, length), Answer::new(answer.number, answer.length)).map_err(failed)?;

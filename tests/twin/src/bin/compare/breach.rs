@@ -218,9 +218,10 @@ fn noise(random: &mut Random) -> Vec<u8> {
 mod tests {
     use super::*;
     use twin::framing::Room;
+    use twin::Port;
 
     fn is_bad(frame: &[u8]) -> bool {
-        Framing::Ascii.body(frame, &mut Room::None).is_none()
+        Framing::Ascii.body(frame, Port::Serial, &mut Room::None).is_none()
     }
 
     #[test]

@@ -3,7 +3,7 @@
 use crate::breach::Breach;
 use sonde::ffi;
 use std::fmt;
-use twin::Framing;
+use twin::{Arrival, Framing};
 
 #[derive(Clone, Copy, Debug, PartialEq, Eq, PartialOrd, Ord)]
 pub enum Kind {
@@ -77,16 +77,15 @@ impl Cut {
     }
 }
 
-/// A frame with the framing that the host names, and the bytes of the reply buffer.
+/// A frame as the host says that it came, and the bytes of the reply buffer.
 #[derive(Clone)]
 pub struct Request {
-    pub framing: Framing,
+    pub arrival: Arrival,
     pub bytes: Vec<u8>,
     /// How the bytes break the framing's form; those of `None` don't.
     pub breach: Option<Breach>,
     pub reply: usize,
     pub words: usize,
-    pub clock: u32,
 }
 
 impl Call {
@@ -142,13 +141,13 @@ impl fmt::Display for Call {
 impl fmt::Display for Request {
     fn fmt(&self, f: &mut fmt::Formatter) -> fmt::Result {
         let Request {
-            framing,
+            arrival,
             bytes,
             breach,
             reply,
             words,
-            clock,
         } = self;
+        let Arrival { clock, framing, port } = arrival;
         let shown = match framing {
             Framing::Rtu => hex(bytes),
             Framing::Ascii => format!("\"{}\"", bytes.escape_ascii()),
@@ -156,7 +155,7 @@ impl fmt::Display for Request {
         let form = breach.map_or("good".to_string(), |breach| format!("{breach:?}"));
         write!(
             f,
-            "frame({framing:?}, {form}, {} bytes {shown}, reply buffer {reply}, {words} words, clock {clock})",
+            "frame({framing:?}, port {port}, {form}, {} bytes {shown}, reply buffer {reply}, {words} words, clock {clock})",
             bytes.len()
         )
     }

@@ -7,19 +7,22 @@ use crate::calls::{Answer, Call, Kind, Request};
 use crate::corrupt::{Corruption, OF_SONDE, OF_VOLUME};
 use crate::generate::{page_due, DEVICE_END, LONGEST_READ, REPLIES};
 use crate::interrupted::{self, Appended, Interrupted};
+use crate::ports::{off_port, Moved, Way, ASCII_ON_RADIO, MOVED, NO_PORTS, WAYS};
 use crate::printed::{self, Fit, Printed, FITS};
 use std::collections::BTreeMap;
 use std::num::FpCategory;
 use twin::calibration::{candidate, within_limits, Coefficients, DIRECT, LEVEL, LIMITS, ONE_POINT, SENSORS, TWO_POINTS};
 use twin::floats::{all_finite, join};
 use twin::frames::{
-    judge, Change, SensorChange, Verdict, BROADCAST, ILLEGAL_FUNCTION, ILLEGAL_SHAPE, JOURNAL_FULL, MASK, OUT_OF_LIMITS, READ, WRITE_MANY,
+    judge, Change, SensorChange, Verdict, ABSENT, BROADCAST, ILLEGAL_FUNCTION, ILLEGAL_SHAPE, JOURNAL_FULL, MASK, OUT_OF_LIMITS, READ,
+    WRITE_MANY,
 };
 use twin::framing::{Framing, Room};
 use twin::map::{locate, Field, LEVEL_IDS, LEVEL_PARAMETER, PARAMETERS};
 use twin::readings::{GOOD, NOT_FINITE};
 use twin::state::{SensorSettings, Sonde};
 use twin::volume::capacity;
+use twin::{Arrival, Port};
 
 #[derive(Clone, Copy, Debug, PartialEq, Eq, PartialOrd, Ord)]
 pub enum Counter {
@@ -49,6 +52,8 @@ pub enum Sort {
     Own,
 }
 
+const SORTS: [Sort; 4] = [Sort::Bad, Sort::Foreign, Sort::Broadcast, Sort::Own];
+
 /// Where working a candidate out divides by zero or leaves the finite floats.
 #[derive(Clone, Copy, Debug, PartialEq, Eq, PartialOrd, Ord)]
 pub enum Division {
@@ -69,16 +74,39 @@ pub enum Item {
         number: u8,
     },
     Frame {
+        way: Way,
+        number: u8,
+    },
+    /// A frame by a port that there isn't; `None` for one that is seldom tried.
+    NoPort {
+        framing: Framing,
+        port: Option<u8>,
+    },
+    /// The same where this number would refuse it on either port.
+    NoPortBefore {
         framing: Framing,
         number: u8,
     },
     /// A reply buffer at or beside the least lengths.
     Reply {
-        framing: Framing,
+        way: Way,
         bytes: usize,
         number: u8,
     },
     ShortReply {
+        way: Way,
+        sort: Sort,
+    },
+    /// A frame on the radio with a right checksum, of so many bytes.
+    RadioFrame {
+        bytes: usize,
+    },
+    /// One that writes as many registers as it has room for, so that the serial port looks at them.
+    RadioWrite {
+        bytes: usize,
+    },
+    /// A frame that the radio doesn't take, by what the serial port would find in it.
+    OffRadio {
         framing: Framing,
         sort: Sort,
     },
@@ -90,28 +118,36 @@ pub enum Item {
     BadAscii(Breach),
     /// The body of a good frame, where it is the shortest or the longest.
     Body {
-        framing: Framing,
+        way: Way,
         bytes: usize,
     },
-    Foreign(Framing),
-    ReadAtZero(Framing),
+    Foreign(Way),
+    ReadAtZero(Way),
+    /// Of more registers than the way's longest read.
+    LongReadAtZero(Way),
+    /// The code that refuses a read of a number of registers near the longest reads.
+    ReadRefused {
+        way: Way,
+        count: u16,
+        code: u8,
+    },
     Code {
-        framing: Framing,
+        way: Way,
         code: u8,
         broadcast: bool,
     },
     Accepted {
-        framing: Framing,
+        way: Way,
         function: u8,
         broadcast: bool,
     },
-    LongestRead(Framing),
+    LongestRead(Way),
     Update {
         sensor: usize,
         method: u16,
     },
     UpdateBy {
-        framing: Framing,
+        way: Way,
         function: u8,
         broadcast: bool,
     },
@@ -131,7 +167,7 @@ pub enum Item {
         full: bool,
     },
     FailedBy {
-        framing: Framing,
+        way: Way,
         function: u8,
         broadcast: bool,
     },
@@ -150,7 +186,7 @@ pub enum Item {
     },
     /// A write of the technician's number.
     TechnicianBy {
-        framing: Framing,
+        way: Way,
         function: u8,
         broadcast: bool,
     },
@@ -177,7 +213,7 @@ pub enum Item {
     TechnicianCleared,
     /// A request for registers at the device's end; code 0 where it is accepted.
     DeviceEnd {
-        framing: Framing,
+        way: Way,
         function: u8,
         start: u16,
         count: u16,
@@ -231,6 +267,11 @@ pub enum Item {
         corruption: Corruption,
         call: Kind,
         number: u8,
+    },
+    /// In a list that differs from another one in ports alone.
+    Moved {
+        to: Port,
+        moved: Moved,
     },
     /// A corrupted volume by itself, and whether it has a fault to name.
     Fault {
@@ -307,56 +348,71 @@ impl Coverage {
         self.note_if(settings.technician != 0, Item::BeginWithTechnician);
     }
 
-    /// How a frame's number goes with its framing and its reply buffer.
+    /// How a frame's number goes with its port, its framing and its reply buffer.
     fn note_reply(&mut self, before: &Before, request: &Request, number: u8) {
-        let (framing, bytes) = (request.framing, request.reply);
-        self.note(Item::Frame { framing, number });
+        let Some(way) = Way::of(request.arrival) else {
+            return self.note_no_port(request);
+        };
+        let bytes = request.reply;
+        self.note(Item::Frame { way, number });
         if number != 4 && REPLIES.contains(&bytes) {
-            self.note(Item::Reply { framing, bytes, number });
+            self.note(Item::Reply { way, bytes, number });
         }
         if number == 3 {
-            let sort = sort(before.sonde.address, framing.body(&request.bytes, &mut Room::None));
-            self.note(Item::ShortReply { framing, sort });
+            let sort = sort(before.sonde.address, request);
+            self.note(Item::ShortReply { way, sort });
         }
     }
 
+    fn note_no_port(&mut self, request: &Request) {
+        let Arrival { framing, port, .. } = request.arrival;
+        let port = NO_PORTS.contains(&port).then_some(port);
+        self.note(Item::NoPort { framing, port });
+        let number = 3;
+        self.note_if(request.reply < framing.reply_least(), Item::NoPortBefore { framing, number });
+    }
+
     fn note_frame(&mut self, before: &Before, request: &Request) {
-        let framing = request.framing;
+        let Some(way) = Way::of(request.arrival) else {
+            return;
+        };
+        if way.port == Port::Radio && request.breach.is_none() {
+            self.note_on_radio(&request.bytes);
+        }
         let mut room = Room::None;
-        let Some(body) = framing.body(&request.bytes, &mut room) else {
+        let Some(body) = way.body(&request.bytes, &mut room) else {
             return self.note_bad(before, request);
         };
-        if [2, 254].contains(&body.len()) {
-            self.note(Item::Body {
-                framing,
-                bytes: body.len(),
-            });
+        if [2, way.body_most()].contains(&body.len()) {
+            self.note(Item::Body { way, bytes: body.len() });
         }
         let capacity = capacity(request.words);
-        let verdict = judge(before.sonde.address, &before.sonde.settings, before.in_use == capacity, body);
+        let full = before.in_use == capacity;
+        let verdict = judge(before.sonde.address, &before.sonde.settings, full, way.port, body);
         self.note_counters(before, &verdict);
         let broadcast = body[0] == BROADCAST;
         let accepted = Item::Accepted {
-            framing,
+            way,
             function: body[1],
             broadcast,
         };
         match verdict {
-            Verdict::Foreign => self.note(Item::Foreign(framing)),
-            Verdict::Ignored => self.note(Item::ReadAtZero(framing)),
+            Verdict::Foreign => self.note(Item::Foreign(way)),
+            Verdict::Ignored => self.note_read_at_zero(way, body),
             Verdict::Read { start, count } => {
                 self.note(accepted);
                 if [start, count] == LONGEST_READ {
-                    self.note(Item::LongestRead(framing));
+                    self.note(Item::LongestRead(way));
                 }
             }
             Verdict::Refused(code) => {
-                self.note(Item::Code { framing, code, broadcast });
+                self.note(Item::Code { way, code, broadcast });
                 self.note_refused(before, code, capacity, body);
+                self.note_read_refused(way, code, body);
             }
             Verdict::OutOfLimits { sensor, candidate } => {
                 self.note(Item::FailedBy {
-                    framing,
+                    way,
                     function: body[1],
                     broadcast,
                 });
@@ -364,33 +420,50 @@ impl Coverage {
             }
             Verdict::Write(change) => {
                 self.note(accepted);
-                self.note_change(before, framing, body, change, capacity);
+                self.note_change(before, way, body, change, capacity);
             }
         }
-        self.note_device_end(framing, body, &verdict);
+        self.note_device_end(way, body, &verdict);
         self.note_written(body);
     }
 
-    fn note_change(&mut self, before: &Before, framing: Framing, body: &[u8], change: Change, capacity: usize) {
+    /// A good frame, but for its port.
+    fn note_on_radio(&mut self, frame: &[u8]) {
+        let bytes = frame.len();
+        self.note_if(RADIO_FRAMES.contains(&bytes), Item::RadioFrame { bytes });
+        let registers = match *frame {
+            [_, WRITE_MANY, _, _, high, low, data, ..] if usize::from(data) + 9 == bytes => u16::from_be_bytes([high, low]),
+            _ => 0,
+        };
+        let whole = 2 * usize::from(registers) + 9 == bytes;
+        self.note_if(whole && RADIO_WRITES.contains(&bytes), Item::RadioWrite { bytes });
+    }
+
+    fn note_read_at_zero(&mut self, way: Way, body: &[u8]) {
+        self.note(Item::ReadAtZero(way));
+        self.note_if(body.len() == 6 && word(body, 4) > way.read_most(), Item::LongReadAtZero(way));
+    }
+
+    /// A read of the right length whose count or whose registers are refused.
+    fn note_read_refused(&mut self, way: Way, code: u8, body: &[u8]) {
+        if body[1] == READ && body.len() == 6 && READ_COUNTS.contains(&word(body, 4)) {
+            let count = word(body, 4);
+            self.note(Item::ReadRefused { way, count, code });
+        }
+    }
+
+    fn note_change(&mut self, before: &Before, way: Way, body: &[u8], change: Change, capacity: usize) {
         let (function, broadcast) = (body[1], body[0] == BROADCAST);
         match change {
             Change::Technician(number) => {
-                self.note(Item::TechnicianBy {
-                    framing,
-                    function,
-                    broadcast,
-                });
+                self.note(Item::TechnicianBy { way, function, broadcast });
                 self.note_number(before, body, number);
             }
             Change::Sensor {
                 sensor,
                 change: SensorChange::Update(_),
             } => {
-                self.note(Item::UpdateBy {
-                    framing,
-                    function,
-                    broadcast,
-                });
+                self.note(Item::UpdateBy { way, function, broadcast });
                 self.note_update(before, sensor, capacity);
                 self.note_technician(before, sensor);
             }
@@ -423,7 +496,7 @@ impl Coverage {
         }
     }
 
-    fn note_device_end(&mut self, framing: Framing, body: &[u8], verdict: &Verdict) {
+    fn note_device_end(&mut self, way: Way, body: &[u8], verdict: &Verdict) {
         let code = match verdict {
             Verdict::Foreign | Verdict::Ignored | Verdict::Refused(ILLEGAL_FUNCTION | ILLEGAL_SHAPE) => return,
             _ => verdict.code().unwrap_or(0),
@@ -433,7 +506,7 @@ impl Coverage {
         let mut requests = DEVICE_END.iter().map(|&(function, start, count, _)| (function, start, count));
         if requests.any(|request| request == (function, start, count)) {
             self.note(Item::DeviceEnd {
-                framing,
+                way,
                 function,
                 start,
                 count,
@@ -446,7 +519,10 @@ impl Coverage {
         if before.sonde.counters.bad == u16::MAX {
             self.note(Item::Saturated(Counter::Bad));
         }
-        self.note(match (request.framing, request.breach) {
+        let framing = request.arrival.framing;
+        let sort = sort(before.sonde.address, request);
+        self.note(match (framing, request.breach) {
+            _ if off_port(request) => Item::OffRadio { framing, sort },
             (Framing::Ascii, Some(breach)) => Item::BadAscii(breach),
             (_, Some(Breach::NamedRtu)) => Item::NamedRtu,
             _ if request.bytes.len() < 4 => Item::TooShort,
@@ -621,13 +697,24 @@ impl Coverage {
         )
     }
 
+    /// Frames on the radio, those that it doesn't take, and frames by ports that there aren't.
+    pub fn ports(&self) -> String {
+        let radio = self.sum(|item| matches!(item, Item::Frame { way, .. } if way.port == Port::Radio));
+        let off = self.sum(|item| matches!(item, Item::OffRadio { .. }));
+        let none = self.sum(|item| matches!(item, Item::NoPort { .. }));
+        format!("{radio} frames on the radio ({off} that it doesn't take) and {none} by no port")
+    }
+
+    fn sum(&self, of: fn(&Item) -> bool) -> u64 {
+        self.0.iter().filter(|(item, _)| of(item)).map(|(_, count)| count).sum()
+    }
+
     /// What was met in ASCII: frames, calibrations and bad frames of each kind.
     pub fn ascii(&self) -> String {
         use Framing::Ascii;
-        let sum = |of: fn(&Item) -> bool| -> u64 { self.0.iter().filter(|(item, _)| of(item)).map(|(_, count)| count).sum() };
-        let frames = sum(|item| matches!(item, Item::Frame { framing: Ascii, .. }));
-        let calibrations = sum(|item| matches!(item, Item::UpdateBy { framing: Ascii, .. }));
-        let bad = sum(|item| matches!(item, Item::BadAscii(_)));
+        let frames = self.sum(|item| matches!(item, Item::Frame { way, .. } if way.framing == Ascii));
+        let calibrations = self.sum(|item| matches!(item, Item::UpdateBy { way, .. } if way.framing == Ascii));
+        let bad = self.sum(|item| matches!(item, Item::BadAscii(_)));
         let of_each = OF_ASCII.map(|breach| self.0.get(&Item::BadAscii(breach)).copied().unwrap_or(0));
         let (kinds, least) = (of_each.len(), of_each.into_iter().min().unwrap_or(0));
         format!("{frames} frames in ASCII with {calibrations} calibrations and {bad} bad ones (at least {least} of each of {kinds} kinds)")
@@ -639,8 +726,9 @@ fn word(body: &[u8], at: usize) -> u16 {
     u16::from_be_bytes([body[at], body[at + 1]])
 }
 
-fn sort(address: u8, body: Option<&[u8]>) -> Sort {
-    match body {
+/// By what the frame carries on the port that takes it.
+fn sort(address: u8, request: &Request) -> Sort {
+    match request.arrival.framing.body(&request.bytes, Port::Serial, &mut Room::None) {
         None => Sort::Bad,
         Some([BROADCAST, ..]) => Sort::Broadcast,
         Some([to, ..]) if *to == address => Sort::Own,
@@ -689,6 +777,15 @@ fn corrected(sensor: usize, settings: &SensorSettings) -> bool {
 
 const FRAMINGS: [Framing; 2] = [Framing::Rtu, Framing::Ascii];
 
+/// Lengths of frames on the radio: the shortest, those around its longest, and the serial port's longest.
+const RADIO_FRAMES: [usize; 7] = [4, 62, 63, 64, 65, 66, 256];
+
+/// Lengths of writes there, which are odd.
+const RADIO_WRITES: [usize; 3] = [63, 65, 255];
+
+/// Registers of reads, around the longest of either port.
+const READ_COUNTS: [u16; 6] = [28, 29, 30, 31, 125, 126];
+
 /// What a run has to meet.
 fn required() -> Vec<Item> {
     let mut items = vec![
@@ -705,7 +802,9 @@ fn required() -> Vec<Item> {
         Item::AuditWithTechnician,
     ];
     items.extend(required_answers());
-    items.extend(FRAMINGS.into_iter().flat_map(required_frames));
+    items.extend(WAYS.into_iter().flat_map(required_frames));
+    items.extend([WAYS.as_slice(), &[ASCII_ON_RADIO]].concat().into_iter().flat_map(required_numbers));
+    items.extend(required_ports());
     items.extend(OF_ASCII.map(Item::BadAscii));
     items.extend(required_updates());
     items.extend(required_technicians());
@@ -786,12 +885,12 @@ fn required_answers() -> Vec<Item> {
         (Kind::Begin, &[0, 2, 4]),
         (Kind::PowerUp, &[0, 1, 4]),
         (Kind::Measure, &[0, 4, 5, 6]),
-        (Kind::Frame, &[0, 3, 4]),
+        (Kind::Frame, &[0, 3, 4, 9]),
         (Kind::Audit, &[0, 4]),
         (Kind::Print, &[0, 4, 7]),
         (Kind::Append, &[0]),
         (Kind::Salvage, &[0, 8]),
-        (Kind::Cut, &[0, 3]),
+        (Kind::Cut, &[0, 3, 9]),
     ];
     let mut items: Vec<Item> = numbers
         .iter()
@@ -815,51 +914,67 @@ fn required_answers() -> Vec<Item> {
     items
 }
 
-/// All that frames of either framing have to meet.
-fn required_frames(framing: Framing) -> Vec<Item> {
-    let mut items = vec![Item::Foreign(framing), Item::ReadAtZero(framing), Item::LongestRead(framing)];
-    items.extend([0, 3, 4].map(|number| Item::Frame { framing, number }));
+/// The numbers of frames in a framing on a port, which don't go by what the port takes.
+fn required_numbers(way: Way) -> Vec<Item> {
+    let mut items: Vec<Item> = [0, 3, 4].map(|number| Item::Frame { way, number }).into();
     items.extend(REPLIES.map(|bytes| Item::Reply {
-        framing,
+        way,
         bytes,
-        number: if bytes < framing.reply_least() { 3 } else { 0 },
+        number: if bytes < way.framing.reply_least() { 3 } else { 0 },
     }));
-    items.extend([Sort::Bad, Sort::Foreign, Sort::Broadcast, Sort::Own].map(|sort| Item::ShortReply { framing, sort }));
-    items.extend([2, 254].map(|bytes| Item::Body { framing, bytes }));
+    items
+}
+
+/// Ports that there aren't, what the radio takes and doesn't, and lists that differ in ports alone.
+fn required_ports() -> Vec<Item> {
+    let mut items = Vec::new();
+    for framing in FRAMINGS {
+        let ports = NO_PORTS.map(Some).into_iter().chain([None]);
+        items.extend(ports.map(|port| Item::NoPort { framing, port }));
+        items.extend([3, 4].map(|number| Item::NoPortBefore { framing, number }));
+        items.extend(SORTS.map(|sort| Item::OffRadio { framing, sort }));
+    }
+    items.extend(RADIO_FRAMES.map(|bytes| Item::RadioFrame { bytes }));
+    items.extend(RADIO_WRITES.map(|bytes| Item::RadioWrite { bytes }));
+    for to in [Port::Serial, Port::Radio] {
+        items.extend(MOVED.map(|moved| Item::Moved { to, moved }));
+    }
+    items
+}
+
+/// All that good frames in a framing on a port have to meet.
+fn required_frames(way: Way) -> Vec<Item> {
+    let mut items = vec![
+        Item::Foreign(way),
+        Item::ReadAtZero(way),
+        Item::LongReadAtZero(way),
+        Item::LongestRead(way),
+    ];
+    items.extend(SORTS.map(|sort| Item::ShortReply { way, sort }));
+    items.extend([2, way.body_most()].map(|bytes| Item::Body { way, bytes }));
+    items.extend(READ_COUNTS.map(|count| Item::ReadRefused {
+        way,
+        count,
+        code: if count > way.read_most() { ILLEGAL_SHAPE } else { ABSENT },
+    }));
     for broadcast in [false, true] {
-        items.extend([1, 3, 2, 0x80, 0xC2, 0x92, 0x84, 0x97, 0xC0].map(|code| Item::Code { framing, code, broadcast }));
+        items.extend([1, 3, 2, 0x80, 0xC2, 0x92, 0x84, 0x97, 0xC0].map(|code| Item::Code { way, code, broadcast }));
         for function in [6, 16, 22] {
-            items.push(Item::Accepted {
-                framing,
-                function,
-                broadcast,
-            });
-            items.push(Item::UpdateBy {
-                framing,
-                function,
-                broadcast,
-            });
-            items.push(Item::FailedBy {
-                framing,
-                function,
-                broadcast,
-            });
-            items.push(Item::TechnicianBy {
-                framing,
-                function,
-                broadcast,
-            });
+            items.push(Item::Accepted { way, function, broadcast });
+            items.push(Item::UpdateBy { way, function, broadcast });
+            items.push(Item::FailedBy { way, function, broadcast });
+            items.push(Item::TechnicianBy { way, function, broadcast });
         }
     }
     items.extend(DEVICE_END.map(|(function, start, count, code)| Item::DeviceEnd {
-        framing,
+        way,
         function,
         start,
         count,
         code,
     }));
     items.push(Item::Accepted {
-        framing,
+        way,
         function: 3,
         broadcast: false,
     });

@@ -151,7 +151,7 @@ fn choose_links(volume: &mut [u16], random: &mut Random) {
 pub fn carried_out(both: &Both, request: &Request) -> (u8, Vec<u16>) {
     let (mut volume, mut reply) = (both.library_volume.clone(), vec![0; request.reply]);
     let lent = &mut volume[..request.words];
-    let frame = library::frame(both.library, &request.bytes, &mut reply, lent, request.clock, request.framing);
+    let frame = library::frame(both.library, &request.bytes, &mut reply, lent, request.arrival);
     (frame.number, volume)
 }
 
@@ -161,15 +161,7 @@ pub fn cut(both: &mut Both, cut: &Cut) -> Result<Answer, String> {
     let Cut { request, stores, .. } = cut;
     let words = request.words;
     let volume = &mut both.twin_volume[..words];
-    let twin = twin::cut(
-        &both.twin,
-        &request.bytes,
-        request.reply,
-        volume,
-        request.clock,
-        request.framing,
-        *stores,
-    );
+    let twin = twin::cut(&both.twin, &request.bytes, request.reply, volume, request.arrival, *stores);
     let (library, whole) = carried_out(both, request);
     let before = in_use(&both.library_volume[..words]);
     let mut all = both.library_volume.clone();

@@ -4,6 +4,7 @@ use crate::both::{Both, PAGE_MOST};
 use crate::breach::{self, broken, Breach, OF_ASCII};
 use crate::calls::{Call, Cut, Request};
 use crate::interrupted::appends;
+use crate::ports::{Way, ASCII_ON_RADIO, NO_PORTS, RADIO_FRAME_MOST, WAYS};
 use crate::random::Random;
 use crate::values;
 use sonde::ffi;
@@ -15,7 +16,7 @@ use twin::map::{locate, Access, Field, Owner, Place, ENTER, LEAVE, LEVEL_IDS, PA
 use twin::page::{page_bytes, LINE_BYTES};
 use twin::state::{valid_address, Sonde};
 use twin::volume::{capacity, APPEND_STORES, ENTRY_WORDS, HEADER_WORDS};
-use twin::Framing;
+use twin::{Arrival, Framing};
 
 /// Reply buffers at and beside the least lengths of both framings.
 pub const REPLIES: [usize; 8] = [255, 256, 257, 511, 512, 513, 514, 600];
@@ -101,7 +102,7 @@ impl Generator {
 
     /// The frame, or a cut of it: often of one that appends, seldom of others.
     fn perhaps_cut(&mut self, both: &Both, request: Request) -> Call {
-        let percent = if appends(both, &request).is_some() { 12 } else { 1 };
+        let percent = if appends(both, &request).is_some() { 12 } else { 2 };
         if !self.random.chance(percent) {
             return Call::Frame(request);
         }
@@ -284,43 +285,55 @@ impl Generator {
         Call::Frame(self.request(both))
     }
 
-    /// A frame in either framing with a fit reply buffer, seldom a short one.
+    /// A frame in either framing by either port, with a fit reply buffer; seldom a short one, or by a port that there isn't.
     fn request(&mut self, both: &Both) -> Request {
         let mut body = vec![self.frame_address(both.twin.address)];
         body.extend(self.body());
-        let framing = self.framing();
-        let (bytes, breach) = match framing {
+        let arrival = self.arrival();
+        let (bytes, breach) = match arrival.framing {
             Framing::Rtu => self.seal_rtu(&body),
             Framing::Ascii => self.seal_ascii(&body),
         };
-        let (any, small) = (self.random.long(), self.random.long() >> self.random.below(32));
         Request {
-            framing,
+            arrival,
             bytes,
             breach,
-            reply: self.reply(framing),
+            reply: self.reply(arrival.framing),
             words: self.words(both),
-            clock: self.random.pick(&[0, 1, u32::MAX, 0xFFFF, 0x1_0000, any, any, small]),
         }
     }
 
-    /// A frame that writes a register of one word, in either framing.
+    /// A frame that writes a register of one word, in a framing and by a port that takes it.
     pub fn word_frame(&mut self, address: u8, register: u16, value: u16, words: usize) -> Call {
         let mut body = vec![address];
         body.extend(self.write_word(register, value));
-        let framing = self.framing();
+        let Way { port, framing } = self.random.pick(&WAYS);
+        let (clock, port) = (self.random.long(), port as u8);
         Call::Frame(Request {
-            framing,
+            arrival: Arrival { clock, framing, port },
             bytes: breach::sealed(framing, &body),
             breach: None,
             reply: framing.reply_least(),
             words,
-            clock: self.random.long(),
         })
     }
 
-    fn framing(&mut self) -> Framing {
-        self.random.pick(&[Framing::Rtu, Framing::Ascii])
+    fn arrival(&mut self) -> Arrival {
+        let random = &mut self.random;
+        let taken = random.pick(&WAYS);
+        let Way { port, framing } = if random.chance(3) { ASCII_ON_RADIO } else { taken };
+        let (any, small) = (random.long(), random.long() >> random.below(32));
+        Arrival {
+            clock: random.pick(&[0, 1, u32::MAX, 0xFFFF, 0x1_0000, any, any, small]),
+            framing,
+            port: if random.chance(2) { self.other_port() } else { port as u8 },
+        }
+    }
+
+    /// A port that there isn't, or seldom any.
+    fn other_port(&mut self) -> u8 {
+        let [none, any] = [self.random.pick(&NO_PORTS), self.random.byte()];
+        self.random.pick(&[none, none, any])
     }
 
     /// A reply buffer; both framings' least lengths and their neighbours are tried in either.
@@ -345,7 +358,7 @@ impl Generator {
                 return body;
             }
         }
-        match self.random.below(22) {
+        match self.random.below(24) {
             0..=1 => self.read_present(),
             2..=4 => self.read(),
             5..=11 => self.write(),
@@ -354,6 +367,7 @@ impl Generator {
             18 => self.other_function(),
             19 => self.write_technician(),
             20 => self.device_end(),
+            21..=22 => self.long(),
             _ => self.noise(),
         }
     }
@@ -418,8 +432,9 @@ impl Generator {
             3 => place.start.wrapping_sub(1),
             _ => place.start,
         };
+        let fit = random.between(1, 126) as u16;
         let count = random.pick(&[
-            0, 1, 2, 3, 4, 5, 6, 7, 8, 9, 16, 24, 25, 123, 124, 125, 126, 127, 128, 256, 65535, any,
+            0, 1, 2, 3, 4, 5, 6, 7, 8, 9, 16, 24, 25, 28, 29, 29, 30, 30, 31, 123, 124, 125, 126, 127, 128, 256, 65535, fit, fit, any,
         ]);
         words_body(READ, &[start, count])
     }
@@ -571,6 +586,24 @@ impl Generator {
         random.fill_bytes(&mut body);
         if random.chance(50) {
             body[0] = random.pick(&[1, 2, 4, 5, 7, 8, 15, 17, 21, 23, 43, 0, 127, 128, 131, 134, 144, 150, 255]);
+        }
+        body
+    }
+
+    /// A frame of about the radio's longest, or of any longer one that is taken on the serial port: mostly a write of as many registers as its
+    /// length has room for, which an even one leaves a byte of.
+    fn long(&mut self) -> Vec<u8> {
+        let random = &mut self.random;
+        let any = random.between(RADIO_FRAME_MOST + 1, 256);
+        let near = random.between(RADIO_FRAME_MOST - 2, RADIO_FRAME_MOST + 2);
+        let frame = random.pick(&[near, near, near, any, any, 255, 256]);
+        let mut body = vec![0; frame - 3];
+        random.fill_bytes(&mut body);
+        body[0] = random.pick(&[WRITE_MANY, WRITE_MANY, WRITE_MANY, READ, WRITE_ONE, MASK, 0x41]);
+        if body[0] == WRITE_MANY {
+            let (start, data) = (random.pick(&self.fields).start, body.len() - 6);
+            body[1..3].copy_from_slice(&start.to_be_bytes());
+            body[3..6].copy_from_slice(&[0, data as u8 / 2, data as u8]);
         }
         body
     }

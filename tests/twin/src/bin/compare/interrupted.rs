@@ -3,6 +3,7 @@
 use crate::both::Both;
 use crate::calls::{Cut, Request};
 use crate::cuts::{in_use, places};
+use crate::ports::{Way, ASCII_ON_RADIO, WAYS};
 use sonde::ffi;
 use std::collections::BTreeSet;
 use twin::calibration::{LEVEL, SENSORS};
@@ -58,29 +59,35 @@ pub enum Interrupted {
         sensor: usize,
         taken: bool,
     },
+    /// The same by how the update came.
+    FollowedBy {
+        way: Way,
+        taken: bool,
+    },
     Nothing {
-        framing: Framing,
+        way: Way,
         barren: Barren,
     },
+    NoPort(Framing),
 }
 
 /// The sensor whose update the frame is, where it appends an entry: sonde and volume have to be in agreement.
 pub fn appends(both: &Both, request: &Request) -> Option<usize> {
-    interrupted(both, request).ok()
+    interrupted(both, request, Way::of(request.arrival)?).ok()
 }
 
 /// How a frame that isn't bad is judged, where sonde and volume are in agreement.
-fn verdict(both: &Both, request: &Request) -> Option<Verdict> {
+fn verdict(both: &Both, request: &Request, way: Way) -> Option<Verdict> {
     let mut room = Room::None;
-    let body = request.framing.body(&request.bytes, &mut room)?;
+    let body = way.body(&request.bytes, &mut room)?;
     let full = in_use(&both.twin_volume) == capacity(request.words);
-    Some(judge(both.twin.address, &both.twin.settings, full, body))
+    Some(judge(both.twin.address, &both.twin.settings, full, way.port, body))
 }
 
 /// The sensor whose entry the frame appends, or why it appends none.
-fn interrupted(both: &Both, request: &Request) -> Result<usize, Barren> {
-    let short = request.reply < request.framing.reply_least();
-    Err(match verdict(both, request) {
+fn interrupted(both: &Both, request: &Request, way: Way) -> Result<usize, Barren> {
+    let short = request.reply < way.framing.reply_least();
+    Err(match verdict(both, request, way) {
         Some(Verdict::Write(Change::Sensor {
             sensor,
             change: SensorChange::Update(_),
@@ -98,10 +105,12 @@ fn interrupted(both: &Both, request: &Request) -> Result<usize, Barren> {
 
 /// What a cut meets, by what there is before it.
 pub fn of_cut(both: &Both, cut: &Cut, followed: bool) -> Vec<Interrupted> {
-    let framing = cut.request.framing;
-    let sensor = match interrupted(both, &cut.request) {
+    let Some(way) = Way::of(cut.request.arrival) else {
+        return vec![Interrupted::NoPort(cut.request.arrival.framing)];
+    };
+    let sensor = match interrupted(both, &cut.request, way) {
         Ok(sensor) => sensor,
-        Err(barren) => return vec![Interrupted::Nothing { framing, barren }],
+        Err(barren) => return vec![Interrupted::Nothing { way, barren }],
     };
     let taken = cut.stores >= APPEND_STORES;
     let update = Interrupted::Update {
@@ -111,7 +120,9 @@ pub fn of_cut(both: &Both, cut: &Cut, followed: bool) -> Vec<Interrupted> {
         stores: cut.stores.min(MORE_STORES),
     };
     let mut items = vec![update];
-    items.extend(followed.then_some(Interrupted::Followed { sensor, taken }));
+    if followed {
+        items.extend([Interrupted::Followed { sensor, taken }, Interrupted::FollowedBy { way, taken }]);
+    }
     items
 }
 
@@ -134,12 +145,19 @@ pub fn required_updates() -> Vec<Interrupted> {
 
 pub fn required_cuts() -> Vec<Interrupted> {
     let mut items = required_updates();
-    for either in [false, true] {
-        items.extend((0..SENSORS).map(|sensor| Interrupted::Followed { sensor, taken: either }));
+    for taken in [false, true] {
+        items.extend((0..SENSORS).map(|sensor| Interrupted::Followed { sensor, taken }));
+        items.extend(WAYS.map(|way| Interrupted::FollowedBy { way, taken }));
     }
-    for framing in [Framing::Rtu, Framing::Ascii] {
-        items.extend(BARREN.map(|barren| Interrupted::Nothing { framing, barren }));
-    }
+    items.extend(
+        WAYS.into_iter()
+            .flat_map(|way| BARREN.map(|barren| Interrupted::Nothing { way, barren })),
+    );
+    items.push(Interrupted::Nothing {
+        way: ASCII_ON_RADIO,
+        barren: Barren::Bad,
+    });
+    items.extend([Framing::Rtu, Framing::Ascii].map(Interrupted::NoPort));
     items
 }
 

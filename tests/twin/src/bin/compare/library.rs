@@ -2,7 +2,7 @@
 //! don't overlap: those of slices are.
 
 use sonde::ffi::{self, Audit, Entry, Frame, Made, Print, Salvage, Sonde};
-use twin::Framing;
+use twin::{Arrival, Framing};
 
 pub fn fresh(address: u8) -> Made {
     unsafe { ffi::sonde_fresh(address) }
@@ -20,7 +20,7 @@ pub fn measure(sonde: Sonde, sensor: u8, present: bool, first: f32, second: f32)
     unsafe { ffi::sonde_measure(sonde, sensor, present, first, second) }
 }
 
-pub fn frame(sonde: Sonde, bytes: &[u8], reply: &mut [u8], volume: &mut [u16], clock: u32, framing: Framing) -> Frame {
+pub fn frame(sonde: Sonde, bytes: &[u8], reply: &mut [u8], volume: &mut [u16], arrival: Arrival) -> Frame {
     let (reply_len, words) = (reply.len(), volume.len());
     unsafe {
         ffi::sonde_frame(
@@ -31,8 +31,9 @@ pub fn frame(sonde: Sonde, bytes: &[u8], reply: &mut [u8], volume: &mut [u16], c
             reply_len,
             volume.as_mut_ptr(),
             words,
-            clock,
-            framing == Framing::Ascii,
+            arrival.clock,
+            arrival.framing == Framing::Ascii,
+            arrival.port,
         )
     }
 }

@@ -10,6 +10,7 @@ use crate::cuts;
 use crate::generate::{makes_sonde, Generator, TECHNICIAN};
 use crate::interrupted::{self, appends, Appended, MORE_STORES};
 use crate::library;
+use crate::ports::{hold_port, off_port, OtherPorts, NO_PORTS};
 use crate::random::Random;
 use serve::fault;
 use std::collections::VecDeque;
@@ -28,6 +29,8 @@ const LAST_PLACE: usize = CAPACITY_MOST - 1;
 const IN_BOTH_PERCENT: usize = 10;
 /// So many of a hundred calls in lists of corruptions are followed by an append to a copy.
 const APPEND_PERCENT: usize = 20;
+/// So many of a hundred clean lists run beside one that differs in ports alone.
+const OTHER_PORTS_PERCENT: usize = 25;
 /// One list in so many fills a journal of 1000 entries; the first of all does.
 const LONG_EVERY: u64 = 10_000;
 
@@ -53,6 +56,8 @@ pub struct Lists {
     pub volumes: u64,
     /// Requests that were sent in both framings.
     pub in_both_framings: u64,
+    /// Frames that came by the other port in a list that differs in ports alone.
+    pub by_other_port: u64,
     words: Vec<u16>,
 }
 
@@ -65,6 +70,7 @@ impl Lists {
             calls: 0,
             volumes: 0,
             in_both_framings: 0,
+            by_other_port: 0,
             words: Vec::new(),
         }
     }
@@ -137,13 +143,14 @@ impl Lists {
         self.every_cut(both, book, request, generator)
     }
 
-    /// Every cut of an update in a list, on copies: demand 3 holds after each. The last one lacks a byte of the reply's room, and leaves nothing.
-    /// Registers aren't read back.
+    /// Every cut of an update in a list, on copies: demand 3 holds after each. The last two lack a byte of the reply's room, or come by a port that
+    /// there isn't, and leave nothing. Registers aren't read back.
     fn every_cut(&mut self, both: &Both, book: &Book, request: &Request, generator: &mut Generator) -> Result<(), String> {
-        let mut short = request.clone();
-        short.reply = request.framing.reply_least() - 1;
+        let [mut short, mut nowhere] = [request.clone(), request.clone()];
+        short.reply = request.arrival.framing.reply_least() - 1;
+        nowhere.arrival.port = generator.random.pick(&NO_PORTS);
         let cuts = (0..=MORE_STORES).map(|stores| (request, stores));
-        for (request, stores) in cuts.chain([(&short, APPEND_STORES)]) {
+        for (request, stores) in cuts.chain([(&short, APPEND_STORES), (&nowhere, APPEND_STORES)]) {
             let cut = generator.cut(request.clone(), stores);
             self.note_cut(both, &cut, false);
             let (mut both, mut book) = (both.clone(), book.clone());
@@ -167,6 +174,9 @@ impl Lists {
         let answer = self.comparison.run(both, call, random)?;
         if let Call::Frame(request) = call {
             hold_form(before, both, request, answer)?;
+        }
+        if let Call::Frame(request) | Call::Cut(Cut { request, .. }) = call {
+            hold_port(request, answer)?;
         }
         hold_technician(before, both, call, answer)?;
         self.coverage.note_call(before, call, answer);
@@ -286,6 +296,15 @@ impl Lists {
         }
     }
 
+    /// The same call in a list that differs in ports alone, which has to leave the same.
+    fn other_step(&mut self, other: &mut OtherPorts, both: &Both, book: &Book, call: &Call, random: &mut Random) -> Result<(), String> {
+        if let Some((to, what)) = other.step(&mut self.comparison, call, random)? {
+            self.by_other_port += 1;
+            what.into_iter().for_each(|moved| self.coverage.note(Item::Moved { to, moved }));
+        }
+        other.hold(both, book).map_err(|difference| format!("{call}\n{difference}"))
+    }
+
     fn clean(&mut self, generator: &mut Generator, wide: bool) -> Result<(), String> {
         let words = if wide {
             MOST_WORDS + 2
@@ -294,6 +313,8 @@ impl Lists {
         };
         let mut both = Both::new(words, &mut generator.random);
         let mut book = Book::fresh(1);
+        let beside = generator.random.chance(OTHER_PORTS_PERCENT);
+        let mut other = beside.then(|| OtherPorts::new(&both, &book));
         for number in 0..generator.random.between(20, 400) {
             let call = if number == 0 {
                 Call::Fresh { address: 1 }
@@ -302,6 +323,10 @@ impl Lists {
             };
             self.sometimes_every_cut(&both, &book, &call, generator)
                 .and_then(|()| self.followed_step(&mut both, &mut book, &call, generator))
+                .and_then(|()| match &mut other {
+                    Some(other) => self.other_step(other, &both, &book, &call, &mut generator.random),
+                    None => Ok(()),
+                })
                 .map_err(|difference| format!("call {number}: {difference}"))?;
         }
         Ok(())
@@ -439,6 +464,14 @@ impl Lists {
         Ok(())
     }
 
+    /// A port that there isn't refuses the frame before what is wrong with sonde or volume.
+    fn note_no_port(&mut self, corruption: Corruption, call: &Call, number: u8) {
+        if let (Call::Frame(request), 9, false) = (call, number, corruption.harmless() || corruption.uncertain()) {
+            let framing = request.arrival.framing;
+            self.coverage.note(Item::NoPortBefore { framing, number: 4 });
+        }
+    }
+
     fn corrupted_by(&mut self, corruption: Corruption, both: &Both, generator: &mut Generator) -> Result<(), String> {
         let mut copy = both.clone();
         if !corrupt(&mut copy, corruption, &mut generator.random) {
@@ -456,6 +489,7 @@ impl Lists {
                 call: call.kind(),
                 number,
             });
+            self.note_no_port(corruption, call, number);
             hold_print(corruption, call, number).map_err(failed)?;
             hold_salvage(corruption, call, number, both, &copy).map_err(failed)?;
             let expected = if corruption.harmless() { 0 } else { 4 };
@@ -468,21 +502,14 @@ impl Lists {
 }
 
 /// Feeds the book a call's arguments.
-fn follow(book: &mut Book, call: &Call) {
+pub fn follow(book: &mut Book, call: &Call) {
     match call {
         Call::Fresh { address } if makes_sonde(call) => *book = Book::fresh(*address),
         Call::Begin { words } => book.begin(*words),
         Call::PowerUp { address, .. } => book.power_up(*address),
-        Call::Frame(request) => book.frame(&request.bytes, request.reply, request.clock, request.framing),
+        Call::Frame(request) => book.frame(&request.bytes, request.reply, request.arrival),
         Call::Cut(Cut { request, stores, address }) => {
-            let Request {
-                bytes,
-                reply,
-                clock,
-                framing,
-                ..
-            } = request;
-            book.cut(bytes, *reply, *clock, *framing, *stores, *address);
+            book.cut(&request.bytes, request.reply, request.arrival, *stores, *address);
         }
         Call::Fresh { .. }
         | Call::Measure { .. }
@@ -495,7 +522,7 @@ fn follow(book: &mut Book, call: &Call) {
 
 /// A cut, then at once its salvage and its power-up, each by `run`: the salvage gives the volume from before or after the append, and the
 /// power-up isn't refused. The answer is the cut's.
-fn cut_by(
+pub fn cut_by(
     both: &mut Both,
     call: &Call,
     cut: &Cut,
@@ -547,9 +574,11 @@ fn long_word(generator: &mut Generator, register: u16, value: u16) -> Call {
     generator.word_frame(1, register, value, MOST_WORDS)
 }
 
-/// A frame that was made to be good isn't counted bad, and one that was made to break its form is: both implementations alike could be wrong.
+/// A frame that was made to be good isn't counted bad, and one that was made to break its form is, or that its port doesn't take: both
+/// implementations alike could be wrong.
 fn hold_form(before: &Before, both: &Both, request: &Request, answer: Answer) -> Result<(), String> {
     let due = match request.breach {
+        _ if off_port(request) => 1,
         None => 0,
         Some(breach) if breach.certain() => 1,
         Some(_) => return Ok(()),

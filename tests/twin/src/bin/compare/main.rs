@@ -1,11 +1,12 @@
 //! Runs seeded lists of calls on the proved library and on the twin and compares, after each call: number and length, the whole reply
 //! buffer or page (filled with random bytes beforehand), the whole volume (its free words too), every field of the sonde bit for bit, and
-//! every register of the map, read by frames on copies. Frames of a list are RTU or ASCII at random, and some are also sent in both
-//! framings, to copies, where the effect has to be the same. Clean lists are also held to the control book (demand 3), and so are the pages
-//! that they print. They hold cuts, each with its salvage and power-up; of some updates every cut is tried, on copies. Lists of corrupted
-//! sondes and volumes are apart, and so are appends of any entry to any words. Wherever it is known whether a frame is bad or a volume valid, both are
-//! held to that, and so is the fault that the serial host names. At the end the run has to have met everything that `coverage` requires. The
-//! rounds of the CRC, which take no sonde, are compared by themselves, at every sum.
+//! every register of the map, read by frames on copies. Frames of a list are RTU or ASCII at random and come by either port, seldom by one
+//! that there isn't. Some are also sent in both framings, to copies, where the effect has to be the same, and beside some lists runs one
+//! that differs in the ports of RTU frames alone and has to leave the same. Clean lists are also held to the control book (demand 3), and so
+//! are the pages that they print. They hold cuts, each with its salvage and power-up; of some updates every cut is tried, on copies. Lists
+//! of corrupted sondes and volumes are apart, and so are appends of any entry to any words. Wherever it is known whether a frame is bad or a
+//! volume valid, both are held to that, and so is the fault that the serial host names. At the end the run has to have met everything that
+//! `coverage` requires. The rounds of the CRC, which take no sonde, are compared by themselves, at every sum.
 
 mod before;
 mod both;
@@ -19,6 +20,7 @@ mod generate;
 mod interrupted;
 mod library;
 mod lists;
+mod ports;
 mod printed;
 mod random;
 mod rounds;
@@ -134,9 +136,11 @@ fn report(shares: &[Lists], rounds: &str) -> ExitCode {
         return ExitCode::FAILURE;
     }
     let both: u64 = shares.iter().map(|lists| lists.in_both_framings).sum();
+    let other: u64 = shares.iter().map(|lists| lists.by_other_port).sum();
     println!(
-        "{calls} calls and {registers} registers compared, {}, {both} requests in both framings, {}, {}, {rounds}, faults asked of {volumes} volumes, no difference",
+        "{calls} calls and {registers} registers compared, {}, {both} requests in both framings, {}, {other} RTU frames by the other port, {}, {}, {rounds}, faults asked of {volumes} volumes, no difference",
         coverage.ascii(),
+        coverage.ports(),
         coverage.prints(),
         coverage.cuts()
     );
