@@ -13,7 +13,7 @@ function plain(text) {
 
 function add(part, line) { parts[part] = parts[part] line "\n" }
 
-# An option's first line: its name and value, then the text.
+# An option's first line: its name and value, then the text, which may begin in the next line.
 function option(line,    name, value, at) {
     sub(/^ +/, "", line)
     at = index(line, "  ")
@@ -23,7 +23,7 @@ function option(line,    name, value, at) {
     value = ""
     if (name ~ / /) { value = name; sub(/^[^ ]* /, "", value); sub(/ .*/, "", name) }
     add("OPTIONS", ".TP\n.B " plain(name) (value == "" ? "" : " \\fI" plain(value) "\\fR"))
-    add("OPTIONS", plain(line))
+    if (line != "") add("OPTIONS", plain(line))
 }
 
 function read_help(    line, lines, n, i, part) {

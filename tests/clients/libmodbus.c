@@ -1,5 +1,7 @@
 /*
  * libmodbus before|after DEVICE: one line for each step, exit status 1 where one went wrong. libmodbus floats: what its setter makes of 1.0.
+ * libmodbus rounds DEVICE SENSOR COUNT serial|radio: so many calibrations of sensor 1 or 4 at clock 1767225600, a line with the words of the entry for
+ * each, and a line with the number of requests.
  *
  * libmodbus gives exceptions 1 to 11 an errno of their own. Any other code, such as 0x92, is EMBBADEXC ('Invalid exception code') without its number,
  * so these are also asked for as raw frames, whose reply holds the code.
@@ -7,6 +9,7 @@
 #include <errno.h>
 #include <stdbool.h>
 #include <stdio.h>
+#include <stdlib.h>
 #include <string.h>
 
 #include <modbus/modbus.h>
@@ -201,6 +204,39 @@ static void full(void) {
     reads(8, WORDS(3), "3 entries in use");
 }
 
+/* The two words of a float, as entries are printed. */
+static void print_float(float value) {
+    uint32_t bits;
+    memcpy(&bits, &value, sizeof bits);
+    printf(" %04x %04x", bits >> 16, bits & 0xFFFF);
+}
+
+/* A calibration by the point (8 + k, y), whose slope is 1 to 31/16: every float is exact. Of its entry words 1 to 23 are printed. */
+static void calibrates(int sensor, int k, int refusal) {
+    uint16_t none[MODBUS_MAX_READ_REGISTERS];
+    int base = 100 * sensor;
+    float slope = (16 + k % 16) / 16.0f, x1 = 8 + k, y1 = x1 * slope;
+    writes(base + 5, 0xE000, "mode on");
+    writes(base + 6, 1, "method: one point");
+    writes_float(base + 16, x1, "x1");
+    writes_float(base + 18, y1, "y1");
+    reads_floats(base + 16, FLOATS(x1, y1), "the point");
+    refused(modbus_read_registers(line, 0, 30, none), refusal, "30 registers");
+    writes(base + 5, 0xE001, "update");
+    reads_floats(base + 10, FLOATS(0, slope), "coefficients");
+    writes(base + 5, 0xE002, "mode off");
+    reads(base, WORDS(sensor, 0x6955, 0xB900, 0, 0, 0), "its number, last calibration 1767225600, next 0, mode off");
+    printf("entry %04x 0001 0000 6955 b900", sensor);
+    float words[] = {0, slope, 0, x1, y1, 0, 0, 0, 0};
+    for (size_t i = 0; i < sizeof words / sizeof *words; i++) print_float(words[i]);
+    printf("\n");
+}
+
+static void rounds(int sensor, int count, int refusal) {
+    for (int k = 0; k < count; k++) calibrates(sensor, k, refusal);
+    printf("asked %d\n", asked);
+}
+
 int main(int argc, char **argv) {
     if (argc == 2 && strcmp(argv[1], "floats") == 0) {
         uint16_t got[2];
@@ -208,24 +244,29 @@ int main(int argc, char **argv) {
         printf("version %s: 1.0 becomes 0x%04X 0x%04X\n", LIBMODBUS_VERSION_STRING, got[0], got[1]);
         return 0;
     }
-    if (argc != 3) return 2;
+    bool in_rounds = argc == 6 && strcmp(argv[1], "rounds") == 0;
+    if (argc != 3 && !in_rounds) return 2;
     line = modbus_new_rtu(argv[2], 19200, 'N', 8, 2); /* a pseudo-terminal has no parity */
     if (!line || modbus_set_slave(line, ADDRESS) == -1 || modbus_connect(line) == -1) {
         printf("FAILED no connection: %s\n", modbus_strerror(errno));
         return 1;
     }
     modbus_set_response_timeout(line, 5, 0);
-    if (strcmp(argv[1], "before") == 0) {
-        floats();
-        map();
-        writing();
-        refusing();
-        calibration();
+    if (in_rounds) {
+        rounds(atoi(argv[3]), atoi(argv[4]), strcmp(argv[5], "radio") == 0 ? EMBXILVAL : EMBXILADD);
     } else {
-        powered_up();
-        full();
+        if (strcmp(argv[1], "before") == 0) {
+            floats();
+            map();
+            writing();
+            refusing();
+            calibration();
+        } else {
+            powered_up();
+            full();
+        }
+        reads(4, WORDS(asked, 0, refusals), "good, bad and refused frames are counted");
     }
-    reads(4, WORDS(asked, 0, refusals), "good, bad and refused frames are counted");
     modbus_close(line);
     modbus_free(line);
     return failed;

@@ -1,5 +1,7 @@
 #!/bin/sh
 # mbpoll before|after DEVICE: one line for each step, exit status 1 where one went wrong.
+# mbpoll rounds DEVICE SENSOR COUNT serial|radio: so many calibrations of sensor 1 or 4 at clock 1767225600, a line with the words of the entry for each,
+# and a line with the number of requests.
 #
 # What mbpoll can't do: a mask write (function 22); a request that code 3 answers (it refuses wrong counts itself). It names codes 1 and 2; any
 # code above 11, such as 0x92, it shows as 'Invalid exception code', without its number.
@@ -17,9 +19,13 @@ poll() {
     mbpoll -m rtu -a 17 -b 19200 -P none -s 2 -o 5 -0 -1 "$@" 2>&1
 }
 
+got() { # type, register, how many values
+    poll -t "$1" -B -r "$2" -c "$3" "$device" | sed -n 's/^\[[0-9]*\]:[[:blank:]]*\([^ ]*\).*/\1/p' | xargs
+}
+
 reads() { # type, register, the values, what
     asked=$((asked + 1))
-    got=$(poll -t "$1" -B -r "$2" -c "$(echo "$3" | wc -w)" "$device" | sed -n 's/^\[[0-9]*\]:[[:blank:]]*\([^ ]*\).*/\1/p' | xargs)
+    got=$(got "$1" "$2" "$(echo "$3" | wc -w)")
     result "$([ "$got" = "$3" ]; echo $?)" "$4: $3" "$got"
 }
 
@@ -140,9 +146,44 @@ full() {
     reads 4 8 3 'entries in use'
 }
 
+words() { # register: four words in hexadecimal
+    asked=$((asked + 1))
+    words=$(got 4:hex "$1" 4 | sed 's/0x//g' | tr A-F a-f)
+}
+
+# A calibration by the point (8 + k, y), whose slope is 1 to 31/16. Of its entry words 1 to 23 are printed, the floats as mbpoll reads them.
+calibrates() { # sensor, k, what is said of 30 registers
+    x=$((8 + $2))
+    slope=$(awk "BEGIN { print (16 + $2 % 16) / 16 }")
+    y=$(awk "BEGIN { print $x * $slope }")
+    writes 4 "${1}05" 0xE000 'mode on'
+    writes 4 "${1}06" 1 'method: one point'
+    writes 4:float "${1}16" "$x" "x1 = $x"
+    writes 4:float "${1}18" "$y" "y1 = $y"
+    reads 4:float "${1}16" "$x $y" 'the point'
+    words "${1}16"
+    points=$words
+    refused "$3" '30 registers' -r 0 -c 30 "$device"
+    writes 4 "${1}05" 0xE001 'update'
+    reads 4:float "${1}10" "0 $slope" 'coefficients'
+    words "${1}10"
+    writes 4 "${1}05" 0xE002 'mode off'
+    reads 4 "${1}00" "$1 26965 47360 0 0 0" 'its number, last and next calibration, mode'
+    echo "entry 000$1 0001 0000 6955 b900 $words 0000 0000 $points 0000 0000 0000 0000 0000 0000 0000 0000"
+}
+
+rounds() { # sensor, count, port
+    said='Illegal data address'
+    [ "$3" = serial ] || said='Illegal data value'
+    for k in $(seq 0 $(($2 - 1))); do calibrates "$1" "$k" "$said"; done
+    echo "asked $asked"
+    exit "$failed"
+}
+
 case $phase in
 before) map; writing; refusing; calibration ;;
 after) powered_up; full ;;
+rounds) rounds "$3" "$4" "$5" ;;
 esac
 reads 4 4 "$asked 0 $refusals" 'good, bad and refused frames'
 exit "$failed"

@@ -1,4 +1,6 @@
 """pymodbus rtu|ascii before|after DEVICE: one line for each step, exit status 1 where one went wrong.
+pymodbus rtu|ascii rounds DEVICE SENSOR COUNT serial|radio: so many calibrations of sensor 1 or 4 at clock 1767225600, a line with the words of the entry
+for each, and a line with the number of requests.
 
 pymodbus hands back an ExceptionResponse with the code, whatever it is. Its text names codes 1 to 11 (IllegalAddress), and says None for any other,
 such as 0x92.
@@ -170,8 +172,35 @@ class Client:
         self.reads(8, [3], "entries in use")
 
 
-def main(framing, phase, device):
+    def calibrates(self, sensor, k, refusal):
+        """By the point (8 + k, y), whose slope is 1 to 31/16: every float is exact. Of its entry words 1 to 23 are printed."""
+        base, slope = 100 * sensor, (16 + k % 16) / 16
+        x1, y1 = 8 + k, (8 + k) * slope
+        self.writes(base + 5, 0xE000, "mode on")
+        self.writes(base + 6, 1, "method: one point")
+        self.writes_float(base + 16, x1, "x1")
+        self.writes_float(base + 18, y1, "y1")
+        self.reads_floats(base + 16, [x1, y1], "the point")
+        self.refused(*refusal, self.line.read_holding_registers(0, 30, slave=ADDRESS), "30 registers")
+        self.writes(base + 5, 0xE001, "update")
+        self.reads_floats(base + 10, [0.0, slope], "coefficients")
+        self.writes(base + 5, 0xE002, "mode off")
+        self.reads(base, [sensor, 0x6955, 0xB900, 0, 0, 0], "its number, last and next calibration, mode")
+        entry = struct.pack(">3HI9f", sensor, 1, 0, 1767225600, 0, slope, 0, x1, y1, 0, 0, 0, 0)
+        print("entry", entry.hex(" ", 2))
+
+    def rounds(self, sensor, count, port):
+        refusal = (3, "IllegalValue") if port == "radio" else (2, "IllegalAddress")
+        for k in range(int(count)):
+            self.calibrates(int(sensor), k, refusal)
+        print("asked", self.asked)
+
+
+def main(framing, phase, device, *words):
     client = Client(framing, device)
+    if phase == "rounds":
+        client.rounds(*words)
+        return client.failed
     steps = {
         "before": (client.map, client.writing, client.refusing, client.calibration),
         "after": (client.powered_up, client.full),

@@ -13,6 +13,9 @@ use std::time::Duration;
 
 pub const HELP: &str = include_str!("help.txt");
 
+/// How the options of the radio line begin.
+const OF_RADIO: &str = "--radio-";
+
 const SPEEDS: [u32; 13] = [
     300, 600, 1200, 2400, 4800, 9600, 19200, 38400, 57600, 115200, 230400, 460800, 921600,
 ];
@@ -64,8 +67,11 @@ pub enum Rts {
     Low,
 }
 
+/// The settings of a line.
 #[derive(Debug)]
-pub struct Options {
+pub struct LineOptions {
+    /// The radio line, else the serial line.
+    pub radio: bool,
     /// None: a pseudo-terminal.
     pub device: Option<PathBuf>,
     /// Another name of the pseudo-terminal.
@@ -82,6 +88,92 @@ pub struct Options {
     pub echo: bool,
     /// None: the device's driver is left as it is.
     pub rs485: Option<Rts>,
+}
+
+impl LineOptions {
+    fn serial() -> LineOptions {
+        LineOptions {
+            radio: false,
+            device: None,
+            link: None,
+            ascii: false,
+            speed: 19200,
+            parity: Parity::Even,
+            data_bits: None,
+            silence: None,
+            echo: false,
+            rs485: None,
+        }
+    }
+
+    fn radio() -> LineOptions {
+        LineOptions {
+            radio: true,
+            ..LineOptions::serial()
+        }
+    }
+
+    /// An option of this line: `--echo`, or `--radio-echo`.
+    pub fn option(&self, name: &str) -> String {
+        match self.radio {
+            true => format!("{OF_RADIO}{name}"),
+            false => format!("--{name}"),
+        }
+    }
+
+    /// The standard's character, but for what was given: RTU has 8 data bits, ASCII 7.
+    pub fn character(&self) -> Character {
+        let standard = if self.ascii { DataBits::Seven } else { DataBits::Eight };
+        Character {
+            data_bits: self.data_bits.unwrap_or(standard),
+            parity: self.parity,
+        }
+    }
+
+    /// Whether the options of one line fit together.
+    fn fit(&self) -> Result<(), String> {
+        let [device, link, rs485] = ["device", "link", "rs485"].map(|name| self.option(name));
+        let on_device = self.device.is_some();
+        none_of([
+            (
+                on_device && self.link.is_some(),
+                format!("{link} names a pseudo-terminal, and {device} is none"),
+            ),
+            (!on_device && self.rs485.is_some(), format!("{rs485} is for a {device}")),
+            (
+                !self.ascii && self.data_bits == Some(DataBits::Seven),
+                "--data-bits 7 is for --ascii, and Modbus RTU has 8".to_string(),
+            ),
+            (
+                self.ascii && self.silence.is_some(),
+                "--silence is for Modbus RTU, and --ascii ends a frame by LF alone".to_string(),
+            ),
+        ])
+    }
+
+    /// Whether another line has its own device and its own link.
+    fn is_apart_from(&self, other: &LineOptions) -> Result<(), String> {
+        let both = |name: &str| format!("{} and {} are the same", self.option(name), other.option(name));
+        none_of([
+            (self.device.is_some() && self.device == other.device, both("device")),
+            (self.link.is_some() && self.link == other.link, both("link")),
+        ])
+    }
+}
+
+/// The message of the first misfit that there is.
+fn none_of<const N: usize>(misfits: [(bool, String); N]) -> Result<(), String> {
+    match misfits.into_iter().find(|(misfit, _)| *misfit) {
+        Some((_, message)) => Err(message),
+        None => Ok(()),
+    }
+}
+
+#[derive(Debug)]
+pub struct Options {
+    pub serial: LineOptions,
+    /// None: the serial line is the only one.
+    pub radio: Option<LineOptions>,
     pub address: u8,
     pub volume: PathBuf,
     /// Begun with the calibrations that `volume` has in force, and served in its place.
@@ -98,15 +190,8 @@ pub struct Options {
 impl Default for Options {
     fn default() -> Options {
         Options {
-            device: None,
-            link: None,
-            ascii: false,
-            speed: 19200,
-            parity: Parity::Even,
-            data_bits: None,
-            silence: None,
-            echo: false,
-            rs485: None,
+            serial: LineOptions::serial(),
+            radio: None,
             address: 1,
             volume: PathBuf::from("sonde.volume"),
             new_volume: None,
@@ -141,28 +226,52 @@ pub fn parse(words: impl IntoIterator<Item = OsString>) -> Result<Command, Strin
                     .then(|| Command::Check(file.into()))
                     .ok_or("--check FILE stands alone".to_string());
             }
-            "--ascii" => options.ascii = true,
-            "--echo" => options.echo = true,
+            "--radio" => options.radio = Some(options.radio.unwrap_or_else(LineOptions::radio)),
+            "--ascii" => options.serial.ascii = true,
+            "--echo" | "--radio-echo" => options.line(name).echo = true,
             "--verbose" => options.verbose = true,
             _ => options.set(name, rest.next())?,
         }
     }
+    radio_is_asked_for(&words)?;
     options.fit()?;
     Ok(Command::Serve(options))
 }
 
+/// Options of the radio line want `--radio`. No value begins as an option does.
+fn radio_is_asked_for(words: &[String]) -> Result<(), String> {
+    let asked = words.iter().any(|word| word == "--radio");
+    match words.iter().find(|word| word.starts_with(OF_RADIO)) {
+        Some(name) if !asked => Err(format!("{name} is for the radio line, and there is no --radio")),
+        _ => Ok(()),
+    }
+}
+
 impl Options {
+    /// The serial line, and the radio line if there is one.
+    pub fn lines(&self) -> impl Iterator<Item = &LineOptions> {
+        std::iter::once(&self.serial).chain(&self.radio)
+    }
+
+    /// The line that an option is for.
+    fn line(&mut self, name: &str) -> &mut LineOptions {
+        match name.starts_with(OF_RADIO) {
+            true => self.radio.get_or_insert_with(LineOptions::radio),
+            false => &mut self.serial,
+        }
+    }
+
     /// One option that has a value.
     fn set(&mut self, name: &str, given: Option<&str>) -> Result<(), String> {
         let value = || value(name, given);
         match name {
-            "--device" => self.device = Some(value()?.into()),
-            "--link" => self.link = Some(value()?.into()),
-            "--speed" => self.speed = speed(value()?)?,
-            "--parity" => self.parity = parity(value()?)?,
-            "--data-bits" => self.data_bits = Some(data_bits(value()?)?),
-            "--silence" => self.silence = Some(Duration::from_millis(number(name, value()?, 1..=10_000)?)),
-            "--rs485" => self.rs485 = Some(rts(value()?)?),
+            "--device" | "--radio-device" => self.line(name).device = Some(value()?.into()),
+            "--link" | "--radio-link" => self.line(name).link = Some(value()?.into()),
+            "--speed" | "--radio-speed" => self.line(name).speed = speed(name, value()?)?,
+            "--parity" | "--radio-parity" => self.line(name).parity = parity(name, value()?)?,
+            "--data-bits" => self.serial.data_bits = Some(data_bits(name, value()?)?),
+            "--silence" | "--radio-silence" => self.line(name).silence = Some(silence(name, value()?)?),
+            "--rs485" | "--radio-rs485" => self.line(name).rs485 = Some(rts(name, value()?)?),
             "--address" => self.address = number(name, value()?, 1..=247)? as u8,
             "--volume" => self.volume = value()?.into(),
             "--new-volume" => self.new_volume = Some(value()?.into()),
@@ -175,37 +284,10 @@ impl Options {
         Ok(())
     }
 
-    /// The standard's character, but for what was given: RTU has 8 data bits, ASCII 7.
-    pub fn character(&self) -> Character {
-        let standard = if self.ascii { DataBits::Seven } else { DataBits::Eight };
-        Character {
-            data_bits: self.data_bits.unwrap_or(standard),
-            parity: self.parity,
-        }
-    }
-
     /// Whether the options fit together.
     fn fit(&self) -> Result<(), String> {
-        let on_device = self.device.is_some();
-        let misfits = [
-            (
-                on_device && self.link.is_some(),
-                "--link names a pseudo-terminal, and --device is none",
-            ),
-            (!on_device && self.rs485.is_some(), "--rs485 is for a --device"),
-            (
-                !self.ascii && self.data_bits == Some(DataBits::Seven),
-                "--data-bits 7 is for --ascii, and Modbus RTU has 8",
-            ),
-            (
-                self.ascii && self.silence.is_some(),
-                "--silence is for Modbus RTU, and --ascii ends a frame by LF alone",
-            ),
-        ];
-        match misfits.into_iter().find(|(misfit, _)| *misfit) {
-            Some((_, message)) => Err(message.to_string()),
-            None => Ok(()),
-        }
+        self.lines().try_for_each(LineOptions::fit)?;
+        self.radio.iter().try_for_each(|radio| self.serial.is_apart_from(radio))
     }
 }
 
@@ -219,34 +301,38 @@ fn number(name: &str, text: &str, range: RangeInclusive<u64>) -> Result<u64, Str
     text.parse().ok().filter(|n| range.contains(n)).ok_or_else(wrong)
 }
 
-fn speed(text: &str) -> Result<u32, String> {
+fn speed(name: &str, text: &str) -> Result<u32, String> {
     let listed = SPEEDS.map(|s| s.to_string()).join(", ");
     let speed = text.parse().ok().filter(|s| SPEEDS.contains(s));
-    speed.ok_or_else(|| format!("--speed {text}: the speeds are {listed}"))
+    speed.ok_or_else(|| format!("{name} {text}: the speeds are {listed}"))
 }
 
-fn parity(text: &str) -> Result<Parity, String> {
+fn parity(name: &str, text: &str) -> Result<Parity, String> {
     match text {
         "none" => Ok(Parity::None),
         "even" => Ok(Parity::Even),
         "odd" => Ok(Parity::Odd),
-        _ => Err(format!("--parity {text}: it is none, even or odd")),
+        _ => Err(format!("{name} {text}: it is none, even or odd")),
     }
 }
 
-fn data_bits(text: &str) -> Result<DataBits, String> {
+fn data_bits(name: &str, text: &str) -> Result<DataBits, String> {
     match text {
         "7" => Ok(DataBits::Seven),
         "8" => Ok(DataBits::Eight),
-        _ => Err(format!("--data-bits {text}: it is 7 or 8")),
+        _ => Err(format!("{name} {text}: it is 7 or 8")),
     }
 }
 
-fn rts(text: &str) -> Result<Rts, String> {
+fn silence(name: &str, text: &str) -> Result<Duration, String> {
+    number(name, text, 1..=10_000).map(Duration::from_millis)
+}
+
+fn rts(name: &str, text: &str) -> Result<Rts, String> {
     match text {
         "high" => Ok(Rts::High),
         "low" => Ok(Rts::Low),
-        _ => Err(format!("--rs485 {text}: it is high or low")),
+        _ => Err(format!("{name} {text}: it is high or low")),
     }
 }
 

@@ -1,8 +1,8 @@
 //! Frames as they are cut from the bytes of a line: Modbus RTU by silence, where what comes without a pause of 3.5 characters is one frame, and
 //! Modbus ASCII from a colon to LF.
 
-use serve_options::{Character, Options};
-use sonde::Framing;
+use serve_options::{Character, LineOptions};
+use sonde::{Framing, Port};
 use std::collections::VecDeque;
 use std::time::{Duration, Instant};
 
@@ -12,21 +12,34 @@ const LF: u8 = b'\n';
 /// Frames that may wait for their replies. Of a line that brings more the others are dropped.
 const WAITING: usize = 4096;
 
-/// A frame, and when its first byte was read.
-pub type Frame = (Vec<u8>, Instant);
+/// A frame, and when its first and its last byte were read.
+#[derive(Debug, PartialEq)]
+pub struct Frame {
+    pub bytes: Vec<u8>,
+    pub began: Instant,
+    pub ended: Instant,
+}
 
-pub fn of(options: &Options) -> Framing {
+pub fn of(options: &LineOptions) -> Framing {
     match options.ascii {
         true => Framing::Ascii,
         false => Framing::Rtu,
     }
 }
 
+pub fn port(options: &LineOptions) -> Port {
+    match options.radio {
+        true => Port::Radio,
+        false => Port::Serial,
+    }
+}
+
 /// The longest frame that can be good. Of a longer one this many and one byte more are kept: enough for the library to count it bad.
-fn longest(framing: Framing) -> usize {
-    match framing {
-        Framing::Rtu => 256,
-        Framing::Ascii => 513,
+fn longest(framing: Framing, port: Port) -> usize {
+    match (framing, port) {
+        (Framing::Rtu, Port::Serial) => 256,
+        (Framing::Rtu, Port::Radio) => 64,
+        (Framing::Ascii, _) => 513,
     }
 }
 
@@ -89,43 +102,48 @@ pub fn shown(framing: Framing, frame: &[u8]) -> String {
 /// Cuts frames.
 pub struct Framer {
     framing: Framing,
-    /// The frame that hasn't ended.
+    longest: usize,
+    /// The frame that hasn't ended, and when its first and its last byte were read.
     open: Vec<u8>,
     began: Instant,
+    last: Instant,
     /// Those that have.
     ended: VecDeque<Frame>,
 }
 
 impl Framer {
-    pub fn new(framing: Framing) -> Framer {
+    pub fn new(framing: Framing, port: Port) -> Framer {
+        let now = Instant::now();
         Framer {
             framing,
+            longest: longest(framing, port),
             open: Vec::new(),
-            began: Instant::now(),
+            began: now,
+            last: now,
             ended: VecDeque::new(),
         }
     }
 
-    /// Takes what was read.
-    pub fn push(&mut self, bytes: &[u8]) {
+    /// Takes what was read at this time.
+    pub fn push(&mut self, bytes: &[u8], now: Instant) {
+        if bytes.is_empty() {
+            return;
+        }
+        if self.open.is_empty() {
+            self.began = now;
+        }
+        self.last = now;
         match self.framing {
-            Framing::Rtu => self.push_bytes(bytes),
+            Framing::Rtu => self.keep(bytes),
             Framing::Ascii => bytes.iter().for_each(|byte| self.push_character(*byte)),
         }
-    }
-
-    fn push_bytes(&mut self, bytes: &[u8]) {
-        if self.open.is_empty() {
-            self.began = Instant::now();
-        }
-        self.keep(bytes);
     }
 
     /// Outside a frame nothing is kept. A colon begins one wherever it stands.
     fn push_character(&mut self, character: u8) {
         match character {
             COLON => {
-                self.began = Instant::now();
+                self.began = self.last;
                 self.open = vec![COLON];
             }
             _ if self.open.is_empty() => {}
@@ -138,14 +156,15 @@ impl Framer {
     }
 
     fn keep(&mut self, bytes: &[u8]) {
-        let room = longest(self.framing) + 1 - self.open.len();
+        let room = self.longest + 1 - self.open.len();
         self.open.extend_from_slice(&bytes[..bytes.len().min(room)]);
     }
 
     fn end(&mut self) {
-        let frame = std::mem::take(&mut self.open);
+        let bytes = std::mem::take(&mut self.open);
         if self.ended.len() < WAITING {
-            self.ended.push_back((frame, self.began));
+            let (began, ended) = (self.began, self.last);
+            self.ended.push_back(Frame { bytes, began, ended });
         }
     }
 
@@ -160,7 +179,17 @@ impl Framer {
         self.framing == Framing::Rtu && !self.open.is_empty()
     }
 
+    /// Whether bytes are to be read though frames wait. RTU's are, since a silence between them can't be seen afterwards. ASCII's frames are told
+    /// apart by themselves, and stay with the kernel, which holds their sender up.
+    pub fn takes_more(&self) -> bool {
+        self.framing == Framing::Rtu || self.ended.is_empty()
+    }
+
     /// The next frame that has ended.
+    pub fn first(&self) -> Option<&Frame> {
+        self.ended.front()
+    }
+
     pub fn take(&mut self) -> Option<Frame> {
         self.ended.pop_front()
     }

@@ -8,6 +8,7 @@ pub mod files;
 pub mod framing;
 pub mod inbox;
 pub mod line;
+pub mod lines;
 pub mod link;
 pub mod sensors;
 pub mod server;

@@ -2,12 +2,14 @@
 
 use crate::echo::{Echo, Heard, Suspicion, Verdict, HELD_BACK};
 use crate::files::lock;
-use crate::framing;
+use crate::framing::{self, Frame, Framer};
+use crate::inbox::Inbox;
+use crate::lines::{Event, Listener};
 use crate::link::Link;
 use crate::say;
-use crate::sys::{self, Event, Wish};
-use serve_options::{Character, DataBits, Options, Parity};
-use sonde::Framing;
+use crate::sys::{self, Wish};
+use serve_options::{Character, DataBits, LineOptions, Parity};
+use sonde::{Arrival, Framing, Port};
 use std::fs::{File, OpenOptions};
 use std::io::{self, ErrorKind, Read, Write};
 use std::os::unix::fs::OpenOptionsExt;
@@ -16,6 +18,9 @@ use std::time::{Duration, Instant};
 
 /// How long a line or a client may leave a reply before it is dropped: a master has given up by then.
 pub const PATIENCE: Duration = Duration::from_secs(1);
+
+/// Bytes that are read at a time, at most.
+const AT_A_TIME: usize = 512;
 
 const HANDS_BACK: &str = "the line hands back what is sent; it is dropped. --echo makes sure of it";
 const LEFT_OUT: &str =
@@ -41,11 +46,13 @@ pub struct Line {
     /// The clients' end of a pseudo-terminal. It stays open here, so that the line lives on when a client leaves.
     clients: Option<File>,
     _link: Option<Link>,
-    pub framing: Framing,
+    framing: Framing,
+    port: Port,
     speed: u32,
     character: Character,
     /// What ends an RTU frame. In both framings, what equals a reply and comes before it is over is an echo.
-    pub silence: Duration,
+    silence: Duration,
+    inbox: Inbox,
     echoes: Echoes,
     suspicion: Suspicion,
     /// What was said, which is said once.
@@ -53,26 +60,27 @@ pub struct Line {
 }
 
 impl Line {
-    pub fn open(options: &Options) -> Result<Line, String> {
+    pub fn open(options: &LineOptions) -> Result<Line, String> {
         match &options.device {
             Some(path) => Line::device(path, options).map_err(|e| format!("the device {} can't be used: {e}", path.display())),
             None => Line::pty(options),
         }
     }
 
-    fn device(path: &Path, options: &Options) -> Result<Line, String> {
+    fn device(path: &Path, options: &LineOptions) -> Result<Line, String> {
         let told = |e: io::Error| e.to_string();
         let file = open_line(path).map_err(told)?;
         lock(&file)?;
         sys::set_raw(&file, options.speed, character(&file, options.character()).map_err(told)?).map_err(told)?;
         if let Some(rts) = options.rs485 {
-            sys::set_rs485(&file, rts).map_err(|e| format!("the kernel can't switch its RS-485 driver (--rs485): {e}"))?;
+            let option = options.option("rs485");
+            sys::set_rs485(&file, rts).map_err(|e| format!("the kernel can't switch its RS-485 driver ({option}): {e}"))?;
         }
         sys::drop_input(&file).map_err(told)?;
         Ok(Line::new(path.to_path_buf(), file, options))
     }
 
-    fn pty(options: &Options) -> Result<Line, String> {
+    fn pty(options: &LineOptions) -> Result<Line, String> {
         let told = |e: io::Error| format!("there is no pseudo-terminal to be had: {e}");
         let (file, path) = sys::open_pty().map_err(told)?;
         let clients = open_line(&path).map_err(told)?;
@@ -85,39 +93,79 @@ impl Line {
         })
     }
 
-    fn new(path: PathBuf, file: File, options: &Options) -> Line {
+    fn new(path: PathBuf, file: File, options: &LineOptions) -> Line {
         let echoes = match options.device {
             _ if options.echo => Echoes::Yes,
             Some(_) => Echoes::Perhaps,
             None => Echoes::No,
         };
+        let (framing, port) = (framing::of(options), framing::port(options));
+        let silence = options.silence.unwrap_or(framing::silence(options.speed));
         Line {
             path,
             file,
             clients: None,
             _link: None,
-            framing: framing::of(options),
+            framing,
+            port,
             speed: options.speed,
             character: options.character(),
-            silence: options.silence.unwrap_or(framing::silence(options.speed)),
+            silence,
+            inbox: Inbox::new(Framer::new(framing, port), silence),
             echoes,
             suspicion: Suspicion::default(),
             told: Vec::new(),
         }
     }
 
-    /// Waits for bytes, for `stop`, or until the time is over.
-    pub fn wait(&self, stop: &File, timeout: Option<Duration>) -> Result<Event, String> {
-        sys::wait(&self.file, Wish::Read, stop, timeout).map_err(|e| self.failed(e))
+    /// How a frame of this line came.
+    pub fn arrival(&self, clock: u32) -> Arrival {
+        Arrival {
+            clock,
+            framing: self.framing,
+            port: self.port,
+        }
     }
 
-    /// Whether `stop` can be read.
-    pub fn is_stopped(&self, stop: &File) -> Result<bool, String> {
-        sys::stopped(stop, Duration::ZERO).map_err(|e| self.failed(e))
+    /// What is waited for between replies.
+    pub fn wish(&self) -> Option<(&File, Wish)> {
+        self.inbox.takes_more().then_some((&self.file, Wish::Read))
+    }
+
+    /// The line is listened to. When it matters that nothing has come in by then; None: never.
+    pub fn deadline(&mut self, now: Instant) -> Option<Instant> {
+        self.inbox.deadline(now)
+    }
+
+    /// Takes in what is there, and hands back how many bytes it was.
+    pub fn receive(&mut self) -> Result<usize, String> {
+        let mut buffer = [0; AT_A_TIME];
+        let bytes = self.read(&mut buffer)?;
+        self.inbox.push(bytes, Instant::now());
+        Ok(bytes.len())
+    }
+
+    /// Nothing has come in until now.
+    pub fn idle(&mut self) -> Result<(), String> {
+        match self.inbox.idle(Instant::now()) {
+            true => self.forget(),
+            false => Ok(()),
+        }
+    }
+
+    /// When the next frame ended.
+    pub fn ended(&self) -> Option<Instant> {
+        self.inbox.ended()
+    }
+
+    /// The next frame, if it is a client's, and no reply that the line hands back late.
+    pub fn take(&mut self) -> Option<Frame> {
+        let frame = self.inbox.take()?;
+        self.is_request(&frame).then_some(frame)
     }
 
     /// The bytes that are there, at most those that fit.
-    pub fn read<'a>(&mut self, buffer: &'a mut [u8]) -> Result<&'a [u8], String> {
+    fn read<'a>(&mut self, buffer: &'a mut [u8]) -> Result<&'a [u8], String> {
         match self.file.read(buffer) {
             Ok(0) => Err(self.failed(ErrorKind::UnexpectedEof.into())),
             Ok(length) => Ok(&buffer[..length]),
@@ -126,12 +174,11 @@ impl Line {
         }
     }
 
-    /// Whether a frame is a client's, and no reply that the line hands back late.
-    pub fn is_request(&mut self, frame: &[u8], began: Instant) -> bool {
+    fn is_request(&mut self, frame: &Frame) -> bool {
         if self.echoes == Echoes::No {
             return true;
         }
-        let verdict = self.suspicion.judge(&framing::carried(self.framing, frame), began);
+        let verdict = self.suspicion.judge(&framing::carried(self.framing, &frame.bytes), frame.began);
         match verdict {
             Verdict::Request => {}
             Verdict::LeftOut => self.tell(LEFT_OUT),
@@ -140,54 +187,57 @@ impl Line {
         matches!(verdict, Verdict::Request | Verdict::RequestAfterEcho)
     }
 
-    /// Sends a reply, and drops what the line hands back of it. Hands back what came in besides, in its parts.
-    pub fn send(&mut self, reply: &[u8], stop: &File) -> Result<Vec<Vec<u8>>, String> {
+    /// Sends a reply, and drops what the line hands back of it. All else that comes in is taken in, here and on the other lines.
+    pub fn send(&mut self, reply: &[u8], others: &mut Listener) -> Result<(), String> {
         if reply.is_empty() {
-            return Ok(Vec::new());
+            return Ok(());
         }
         self.calm()?;
-        if self.echoes == Echoes::No {
-            self.write(reply, stop)?;
-            return Ok(Vec::new());
-        }
-        let mut parts = vec![self.waiting()?];
-        let start = Instant::now();
-        if self.write(reply, stop)? {
-            let end = self.sent(start + framing::duration(reply.len(), self.character, self.speed), stop)?;
-            self.suspicion.replied(framing::carried(self.framing, reply), end);
-            parts.extend(self.drop_echo(reply, end, stop)?);
-        }
-        parts.retain(|part| !part.is_empty());
-        Ok(parts)
+        let parts = match self.echoes {
+            Echoes::No => self.write(reply, others).map(|_| Vec::new())?,
+            _ => self.send_to_wire(reply, others)?,
+        };
+        self.inbox.replied(parts, Instant::now());
+        Ok(())
     }
 
-    /// What has come in before anything is sent: no echo.
-    fn waiting(&mut self) -> Result<Vec<u8>, String> {
-        let mut bytes = Vec::new();
-        let mut buffer = [0; 512];
-        while bytes.len() < buffer.len() {
-            match self.read(&mut buffer)? {
-                [] => break,
-                more => bytes.extend_from_slice(more),
+    /// Sends a reply that may come back. Hands back what came in besides, in its parts.
+    fn send_to_wire(&mut self, reply: &[u8], others: &mut Listener) -> Result<Vec<Vec<u8>>, String> {
+        self.receive_waiting()?;
+        let start = Instant::now();
+        if !self.write(reply, others)? {
+            return Ok(Vec::new());
+        }
+        let end = self.sent(start + framing::duration(reply.len(), self.character, self.speed), others)?;
+        self.suspicion.replied(framing::carried(self.framing, reply), end);
+        self.drop_echo(reply, end, others)
+    }
+
+    /// Takes in what has come before anything is sent: no echo.
+    fn receive_waiting(&mut self) -> Result<(), String> {
+        let mut received = 0;
+        while received < AT_A_TIME {
+            match self.receive()? {
+                0 => break,
+                more => received += more,
             }
         }
-        Ok(bytes)
+        Ok(())
     }
 
     /// Writes a reply, and hands back whether the line took it all.
-    fn write(&mut self, mut reply: &[u8], stop: &File) -> Result<bool, String> {
+    fn write(&mut self, mut reply: &[u8], others: &mut Listener) -> Result<bool, String> {
         while !reply.is_empty() {
             match self.file.write(reply) {
                 Ok(length) => reply = &reply[length..],
                 Err(e) if e.kind() == ErrorKind::Interrupted => {}
                 Err(e) if e.kind() != ErrorKind::WouldBlock => return Err(self.failed(e)),
-                Err(_) => match sys::wait(&self.file, Wish::Write, stop, Some(PATIENCE)) {
-                    Ok(Event::Ready) => {}
-                    Ok(_) => {
+                Err(_) => match others.wait(Some((&self.file, Wish::Write)), Instant::now() + PATIENCE)? {
+                    Event::Ready => {}
+                    _ => {
                         self.tell("the line doesn't take a reply; it is dropped");
                         return Ok(false);
                     }
-                    Err(e) => return Err(self.failed(e)),
                 },
             }
         }
@@ -195,10 +245,10 @@ impl Line {
     }
 
     /// Waits until a reply has left the device, which isn't before `end` at the line's speed, and hands back when it had.
-    fn sent(&self, end: Instant, stop: &File) -> Result<Instant, String> {
+    fn sent(&self, end: Instant, others: &mut Listener) -> Result<Instant, String> {
         let failed = |e| self.failed(e);
         while sys::unsent(&self.file).map_err(failed)? > 0 && Instant::now() < end + PATIENCE {
-            if sys::stopped(stop, Duration::from_millis(1)).map_err(failed)? {
+            if others.wait(None, Instant::now() + Duration::from_millis(1))? == Event::Stop {
                 return Ok(end);
             }
         }
@@ -209,15 +259,15 @@ impl Line {
     }
 
     /// Drops the echo of a reply whose last bit was sent at `end`. It is waited for where it has to come, but not long after as many bytes have come.
-    fn drop_echo(&mut self, reply: &[u8], end: Instant, stop: &File) -> Result<Vec<Vec<u8>>, String> {
+    fn drop_echo(&mut self, reply: &[u8], end: Instant, others: &mut Listener) -> Result<Vec<Vec<u8>>, String> {
         let sure = self.echoes != Echoes::Perhaps;
         let mut echo = Echo::of(reply, self.framing);
-        let mut buffer = [0; 512];
+        let mut buffer = [0; AT_A_TIME];
         let mut last = end;
         let window = end + if sure { PATIENCE } else { self.silence };
         let mut until = window;
         while !echo.is_over() {
-            match self.wait(stop, Some(until.saturating_duration_since(Instant::now())))? {
+            match others.wait(Some((&self.file, Wish::Read)), until)? {
                 Event::Ready => echo.push(self.read(&mut buffer)?, last.elapsed() > self.silence),
                 Event::Timeout => break,
                 Event::Stop => return Ok(Vec::new()), // nothing is known of the echo, and no more is served
@@ -252,10 +302,15 @@ impl Line {
         }
     }
 
+    /// Says something of this line, once. Messages are those of the serial line, and of the radio line it is said.
     fn tell(&mut self, message: &'static str) {
-        if !self.told.contains(&message) {
-            self.told.push(message);
-            say(message);
+        if self.told.contains(&message) {
+            return;
+        }
+        self.told.push(message);
+        match self.port {
+            Port::Serial => say(message),
+            Port::Radio => say(&format!("radio line: {}", message.replace("--echo", "--radio-echo"))),
         }
     }
 
@@ -272,7 +327,7 @@ impl Line {
 
     /// Drops a reply that no client has read. A wire loses what nobody listens to, but a pseudo-terminal keeps it, and the next client would
     /// take it for the reply to its own request.
-    pub fn forget(&self) -> Result<(), String> {
+    fn forget(&self) -> Result<(), String> {
         match &self.clients {
             Some(clients) => sys::drop_input(clients).map_err(|e| self.failed(e)),
             None => Ok(()),

@@ -5,7 +5,7 @@ mod events;
 mod files;
 mod terminal;
 
-pub use events::{is_writable, stop_signals, stopped, wait, Event, Wish};
+pub use events::{is_writable, stop_signals, wait, Wish};
 pub use files::{exchange, rename_new};
 pub use terminal::{drain, drop_input, has_echo, is_pty, open_pty, set_raw, set_rs485, unsent, LINE_FLAGS};
 

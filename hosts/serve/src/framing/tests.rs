@@ -23,42 +23,81 @@ fn a_character_has_10_or_11_bits() {
 }
 
 fn taken(framer: &mut Framer) -> Vec<Vec<u8>> {
-    std::iter::from_fn(|| framer.take()).map(|(frame, _)| frame).collect()
+    std::iter::from_fn(|| framer.take()).map(|frame| frame.bytes).collect()
 }
 
 #[test]
 fn chunks_without_a_silence_are_one_rtu_frame() {
-    let mut framer = Framer::new(Framing::Rtu);
+    let mut framer = Framer::new(Framing::Rtu, Port::Serial);
+    let now = Instant::now();
     assert!(!framer.waits_for_silence());
     framer.fall_silent();
-    framer.push(&[1, 3]);
-    framer.push(b":\n");
+    framer.push(&[1, 3], now);
+    framer.push(b":\n", now);
     assert!(framer.waits_for_silence() && framer.take().is_none());
     framer.fall_silent();
     assert!(!framer.waits_for_silence());
-    framer.push(&[7]);
+    framer.push(&[7], now);
     framer.fall_silent();
     assert_eq!(taken(&mut framer), [vec![1, 3, b':', b'\n'], vec![7]]);
 }
 
+/// One byte more than a good frame can have: enough to be counted bad.
 #[test]
-fn of_a_long_rtu_burst_257_bytes_are_kept() {
-    let mut framer = Framer::new(Framing::Rtu);
-    framer.push(&[7; 200]);
-    framer.push(&[8; 5000]);
-    framer.push(&[9; 5000]);
+fn of_a_long_rtu_burst_257_bytes_are_kept_and_65_on_the_radio() {
+    for (port, kept) in [(Port::Serial, 257), (Port::Radio, 65)] {
+        let mut framer = Framer::new(Framing::Rtu, port);
+        let now = Instant::now();
+        framer.push(&[7; 50], now);
+        framer.push(&[8; 5000], now);
+        framer.push(&[9; 5000], now);
+        framer.fall_silent();
+        let [frame] = &taken(&mut framer)[..] else { panic!() };
+        assert_eq!(frame.len(), kept);
+        assert_eq!(&frame[48..52], [7, 7, 8, 8]);
+        assert_eq!(frame[kept - 1], 8);
+        framer.push(&[7; 64], now);
+        framer.fall_silent();
+        assert_eq!(taken(&mut framer), [[7; 64]]);
+    }
+}
+
+#[test]
+fn an_rtu_frame_goes_from_its_first_byte_to_its_last() {
+    let mut framer = Framer::new(Framing::Rtu, Port::Serial);
+    let now = Instant::now();
+    let [first, last, next] = [1, 2, 3].map(|ms| now + Duration::from_millis(ms));
+    framer.push(&[1, 3], first);
+    framer.push(&[0], last);
+    framer.push(&[], next);
     framer.fall_silent();
-    let (frame, _) = framer.take().unwrap();
-    assert_eq!(frame.len(), 257);
-    assert_eq!(&frame[198..202], [7, 7, 8, 8]);
-    assert_eq!(frame[256], 8);
+    framer.push(&[7], next);
+    framer.fall_silent();
+    let times = [framer.take(), framer.take()].map(|frame| frame.map(|frame| (frame.began, frame.ended)));
+    assert_eq!(times, [Some((first, last)), Some((next, next))]);
+}
+
+#[test]
+fn while_frames_wait_rtu_is_read_and_ascii_is_not() {
+    let now = Instant::now();
+    let mut framer = Framer::new(Framing::Ascii, Port::Serial);
+    framer.push(b":01", now);
+    assert!(framer.takes_more());
+    framer.push(b"\r\n:", now);
+    assert!(!framer.takes_more());
+    framer.take();
+    assert!(framer.takes_more());
+    let mut framer = Framer::new(Framing::Rtu, Port::Serial);
+    framer.push(&[1], now);
+    framer.fall_silent();
+    assert!(framer.takes_more() && framer.first().is_some());
 }
 
 /// The ASCII frames of pieces, with a silence between them, which ends none.
 fn cut(pieces: &[&[u8]]) -> Vec<Vec<u8>> {
-    let mut framer = Framer::new(Framing::Ascii);
+    let mut framer = Framer::new(Framing::Ascii, Port::Serial);
     for piece in pieces {
-        framer.push(piece);
+        framer.push(piece, Instant::now());
         assert!(!framer.waits_for_silence());
         framer.fall_silent();
     }
@@ -101,19 +140,21 @@ fn no_more_frames_wait_than_there_is_room_for() {
 }
 
 #[test]
-fn an_ascii_frame_begins_with_its_colon() {
-    let mut framer = Framer::new(Framing::Ascii);
-    let pause = Duration::from_millis(2);
-    framer.push(b"noise:01");
-    std::thread::sleep(pause);
-    let before = Instant::now();
-    framer.push(b"\r\n:02");
-    let after = Instant::now();
-    std::thread::sleep(pause);
-    framer.push(b"03\r\n");
-    let (first, second) = (framer.take().unwrap(), framer.take().unwrap());
-    assert!(first.0 == b":01\r\n" && first.1 < before);
-    assert!(second.0 == b":0203\r\n" && (before..=after).contains(&second.1));
+fn an_ascii_frame_goes_from_its_colon_to_its_lf() {
+    let mut framer = Framer::new(Framing::Ascii, Port::Serial);
+    let now = Instant::now();
+    let [first, second, third] = [1, 2, 3].map(|ms| now + Duration::from_millis(ms));
+    framer.push(b"noise:01", first);
+    framer.push(b"\r\n:0:02", second);
+    framer.push(b"03\r\nnoise", third);
+    let frame = |bytes: &[u8], began, ended| Frame {
+        bytes: bytes.to_vec(),
+        began,
+        ended,
+    };
+    assert_eq!(framer.take(), Some(frame(b":01\r\n", first, second)));
+    assert_eq!(framer.take(), Some(frame(b":0203\r\n", second, third)));
+    assert_eq!(framer.take(), None);
 }
 
 #[test]

@@ -15,6 +15,8 @@ const SIGHUP: c_int = 1;
 const SIGINT: c_int = 2;
 const SIGTERM: c_int = 15;
 const SFD_CLOEXEC: c_int = 0o2000000;
+/// A descriptor that ppoll passes over.
+const NO_FILE: c_int = -1;
 
 #[repr(C)]
 struct PollFd {
@@ -67,13 +69,6 @@ pub enum Wish {
     Write = 4,
 }
 
-#[derive(Debug, PartialEq)]
-pub enum Event {
-    Stop,
-    Ready,
-    Timeout,
-}
-
 /// Whether a write wouldn't be waited for; of a pipe, one of up to 4096 bytes.
 pub fn is_writable(output: &impl AsRawFd) -> bool {
     let mut fds = [PollFd {
@@ -90,19 +85,15 @@ pub fn is_writable(output: &impl AsRawFd) -> bool {
     ready != 0
 }
 
-/// Whether `stop` can be read within this time.
-pub fn stopped(stop: &File, time: Duration) -> io::Result<bool> {
-    wait(stop, Wish::Read, stop, Some(time)).map(|event| event == Event::Stop)
-}
-
-/// Waits until the line is ready, or `stop` can be read, or the time is over (None: never).
-pub fn wait(line: &File, wish: Wish, stop: &File, timeout: Option<Duration>) -> io::Result<Event> {
-    let fd = |file: &File, events| PollFd {
-        fd: file.as_raw_fd(),
-        events,
+/// Waits until what is wished of a file is ready, or `stop` can be read, or the time is over (None: never). Hands back of each whether it is
+/// ready; None once `stop` can be read.
+pub fn wait(wishes: &[Option<(&File, Wish)>], stop: &File, timeout: Option<Duration>) -> io::Result<Option<Vec<bool>>> {
+    let wished = |wish: &Option<(&File, Wish)>| PollFd {
+        fd: wish.map_or(NO_FILE, |(file, _)| file.as_raw_fd()),
+        events: wish.map_or(0, |(_, wish)| wish as c_short),
         revents: 0,
     };
-    let mut fds = [fd(stop, Wish::Read as c_short), fd(line, wish as c_short)];
+    let mut fds: Vec<PollFd> = [Some((stop, Wish::Read))].iter().chain(wishes).map(wished).collect();
     let time = timeout.map(|t| Timespec {
         seconds: t.as_secs() as i64,
         nanoseconds: t.subsec_nanos().into(),
@@ -110,10 +101,12 @@ pub fn wait(line: &File, wish: Wish, stop: &File, timeout: Option<Duration>) -> 
     let time = time.as_ref().map_or(null(), |t| t as *const Timespec);
     // SAFETY: the array is lent with its length; the time is null or alive; no mask.
     match done(unsafe { ppoll(fds.as_mut_ptr(), fds.len() as c_ulong, time, null()) }) {
-        Err(e) if e.kind() == ErrorKind::Interrupted => wait(line, wish, stop, timeout),
+        Err(e) if e.kind() == ErrorKind::Interrupted => wait(wishes, stop, timeout),
         Err(e) => Err(e),
-        Ok(_) if fds[0].revents != 0 => Ok(Event::Stop),
-        Ok(0) => Ok(Event::Timeout),
-        Ok(_) => Ok(Event::Ready),
+        Ok(_) => {
+            let mut ready = fds.iter().map(|fd| fd.revents != 0);
+            let stopped = ready.next() == Some(true);
+            Ok((!stopped).then(|| ready.collect()))
+        }
     }
 }

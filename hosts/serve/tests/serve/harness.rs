@@ -4,7 +4,7 @@ use std::fs::{self, File, OpenOptions};
 use std::io::{BufRead, BufReader, Read, Write};
 use std::os::unix::fs::OpenOptionsExt;
 use std::path::{Path, PathBuf};
-use std::process::{Child, Command, Stdio};
+use std::process::{Child, ChildStdout, Command, Stdio};
 use std::sync::atomic::{AtomicU32, Ordering};
 use std::thread::sleep;
 use std::time::{Duration, Instant};
@@ -69,12 +69,9 @@ impl Folder {
     /// A server, and the line that it has announced: empty where it ended without one.
     fn spawn(&self, mut command: Command) -> Server {
         let mut child = command.stdout(Stdio::piped()).stderr(Stdio::piped()).spawn().unwrap();
-        let mut first = String::new();
-        BufReader::new(child.stdout.take().unwrap()).read_line(&mut first).unwrap();
-        Server {
-            child,
-            path: PathBuf::from(first.trim_end()),
-        }
+        let mut output = BufReader::new(child.stdout.take().unwrap());
+        let path = announced(&mut output);
+        Server { child, output, path }
     }
 
     /// Runs the server to its end: exit status, standard output and standard error.
@@ -146,8 +143,16 @@ impl Drop for Folder {
     }
 }
 
+/// The next line that a server has announced.
+fn announced(output: &mut BufReader<ChildStdout>) -> PathBuf {
+    let mut path = String::new();
+    output.read_line(&mut path).unwrap();
+    PathBuf::from(path.trim_end())
+}
+
 pub struct Server {
     child: Child,
+    output: BufReader<ChildStdout>,
     pub path: PathBuf,
 }
 
@@ -158,6 +163,11 @@ impl Server {
 
     pub fn client(&self) -> Client {
         Client::open(&self.path)
+    }
+
+    /// The radio line, which is announced after the serial line.
+    pub fn radio(&mut self) -> PathBuf {
+        announced(&mut self.output)
     }
 
     pub fn signal(&self, name: &str) {

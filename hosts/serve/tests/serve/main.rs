@@ -9,6 +9,7 @@ mod harness;
 mod line;
 mod link;
 mod options;
+mod radio;
 mod salvage;
 mod sensors;
 mod succession;

@@ -54,6 +54,14 @@ fn help_names_every_option() {
         "echo",
         "rs485",
         "address",
+        "radio",
+        "radio-device",
+        "radio-link",
+        "radio-speed",
+        "radio-parity",
+        "radio-silence",
+        "radio-echo",
+        "radio-rs485",
         "volume",
         "new-volume",
         "entries",
@@ -76,6 +84,10 @@ fn help_names_every_option() {
         "Refused with --ascii",
         "salvaged",
         "FILE.unsalvaged-2",
+        "more than 64 bytes",
+        "more than 29 registers",
+        "in the order in which they ended",
+        "RTU frames that came in meanwhile are read as one",
     ] {
         assert!(text.contains(limit), "{limit}");
     }
