@@ -15,7 +15,8 @@ CLOCK = 1767225600
 INFINITY = [0x7F80, 0]
 SENSORS = range(1, 5)
 PARAMETERS = (130, 138, 146, 230, 330, 338, 430)
-RTU, ASCII = r"[0-9A-F]{2}( [0-9A-F]{2})+", r":.*"  # frames of the dialogues
+SERIAL, RADIO = 1, 2
+RTU, ASCII, ANY = r"[0-9A-F]{2}( [0-9A-F]{2})+", r":.*", r".*"  # frames of the dialogues
 
 
 # ---- floats and words
@@ -74,15 +75,15 @@ class Manual:
         assert found, f"nothing says: {pattern}"
         return found.groups()
 
-    def dialogue(self, pattern):
-        """Clock, request, reply and what is said of the request, of each exchange whose frames match a pattern."""
+    def dialogue(self, pattern, marks=(">", "<")):
+        """Clock, request, reply and what is said of the request, of each exchange with these marks whose frames match a pattern."""
         clock, request, out = 0, None, []
-        for mark, text, said in re.findall(r"^    ([@><]) (.*?)(?:  (.*))?$", self.text, re.M):
+        for mark, text, said in re.findall(rf"^    (@|{'|'.join(marks)})(?: (.*?))?(?:  (.*))?$", self.text, re.M):
             if mark == "@":
                 clock = int(text)
             elif not re.fullmatch(pattern, text):
                 continue
-            elif mark == ">":
+            elif mark == marks[0]:
                 request = text, said
             else:
                 out.append((clock, request[0], text, request[1]))
@@ -133,6 +134,10 @@ class Desk:
     def call(self, line):
         """The number that a call gives."""
         return int(self.ask(line)[0])
+
+    def by(self, port):
+        """The port of the frames that follow."""
+        assert self.call(f"port {port}") == 0
 
     def fresh(self, words=136):
         assert self.call("fresh 1") == 0 and self.call(f"begin {words}") == 0
@@ -310,17 +315,31 @@ def ascii_checksum(desk, registers, _):
     equal(desk.characters(f":010300640098{low}\r\n"), spelled([1, 0x83, 3]), "the reply to a frame whose sum is 0x100")
 
 
+def sized(n):
+    """A frame of n bytes before its checksum, in RTU and in ASCII; where its length is answered, it is refused by 3."""
+    body = [1, 3, *[0] * 257][:n]
+    return sealed(body), spelled(body)
+
+
+def replies_to(desk, rtu, ascii):
+    """The number and the reply to an RTU frame, and the reply to an ASCII frame, of a fresh sonde."""
+    desk.fresh()
+    return desk.ask(f"frame 0 {hexadecimal(rtu, 2)}")[0], desk.characters(ascii)
+
+
+REFUSED = f"0 {hexadecimal(sealed([1, 0x83, 3]), 2)}", spelled([1, 0x83, 3])  # the replies to such frames
+
+
 def lengths(desk, registers, _):
     """Frames with 0 to 258 bytes before their checksum: those of the lengths that the manual gives are answered, the others count as bad."""
     factor, plus = map(int, registers.says(r"A frame of n bytes in RTU has (\d+) × n \+ (\d+) characters in ASCII"))
     answered = []
     for n in range(259):
-        body = [1, 3, *[0] * 257][:n]
-        equal(factor * len(sealed(body)) + plus, len(spelled(body)), "the characters")
-        desk.fresh()
-        replies = desk.ask(f"frame 0 {hexadecimal(sealed(body), 2)}")[0], desk.characters(spelled(body))
+        frames = sized(n)
+        equal(factor * len(frames[0]) + plus, len(frames[1]), "the characters")
+        replies = replies_to(desk, *frames)
         if replies != ("0", ""):
-            equal(replies, (f"0 {hexadecimal(sealed([1, 0x83, 3]), 2)}", spelled([1, 0x83, 3])), f"the replies to {n} bytes in both framings")
+            equal(replies, REFUSED, f"the replies to {n} bytes in both framings")
             answered.append(n)
         equal(desk.read(4, 3), [2, 0, 2] if n in answered else [0, 2, 0], f"the counters after {n} bytes in both framings")
     equal(answered, list(range(min(answered), max(answered) + 1)), "the lengths that are answered")
@@ -493,6 +512,23 @@ def broadcast(desk, registers, _):
         equal(desk.read(4, 3), [good, 0, exceptions], f"the counters after {hexadecimal(body, 2)}")
 
 
+def counts(desk, registers, _):
+    """Reads of 0 to 130 registers that don't exist, on either port: code 3 where the manual says so, else 2. Function 16 takes the most words that fit."""
+    serial, radio, words = map(int, registers.says(r"a count that isn't 1\.\.(\d+) \(read; by radio 1\.\.(\d+)\) or 1\.\.(\d+) \(16\)"))
+    equal(registers.says(r"A read takes 1 to (\d+) registers \(by radio 1 to (\d+)\)"), (str(serial), str(radio)), "what a read takes")
+    desk.fresh()
+    for port, most in ((SERIAL, serial), (RADIO, radio)):
+        desk.by(port)
+        for count in (*range(131), 0x8001, 0xFFFF):
+            equal(desk.read(500, count), 2 if 1 <= count <= most else 3, f"a read of {count} registers on port {port}")
+    desk.by(SERIAL)
+    request = next(row[2] for row in layout_rows(registers) if row[0] == "16")
+    longest, = registers.says(r"An RTU frame has \d+ to (\d+) bytes")
+    assert size_of(request, words) <= int(longest) < size_of(request, words + 1), f"{words} words aren't the most that fit"
+    for count, code in ((0, 3), (words, 2)):
+        equal(desk.frame(1, 16, 0, 100, 0, count, 2 * count, *[0] * 2 * count), [1, 0x90, code], f"{count} words")
+
+
 def past_the_end(desk, registers, _):
     code, = (number(row[0]) for row in registers.table("Code", "When") if "past 0xFFFF" in row[1])
     desk.fresh()
@@ -570,6 +606,10 @@ def refused_updates(desk, sensor):
     return {outside, desk.write(100 * sensor + 5, 0xE001)}
 
 
+def parameter_rows(registers):
+    return registers.table("Sensor", "k", "Parameter", "Id", "Units (the first is the default)", "Available")
+
+
 def parameters(desk, registers, _):
     """Ids, units, conversions, available units and defaults."""
     desk.fresh()
@@ -579,7 +619,7 @@ def parameters(desk, registers, _):
     raws = {1: (1234.5, 20.0), 2: (8.0, 0.0), 3: (14.7, 0.0), 4: (5.0, 0.0)}
     for sensor, raw in raws.items():
         desk.measure(sensor, *raw)
-    rows = registers.table("Sensor", "k", "Parameter", "Id", "Units (the first is the default)", "Available")
+    rows = parameter_rows(registers)
     for sensor, k, name, ids, units, available in rows:
         at = 100 * int(sensor) + 30 + 8 * (int(k) - 1)
         ids = [int(n) for n in re.findall(r"\d+", ids)]
@@ -801,6 +841,137 @@ def who_calibrates(desk, registers, _):
     assert desk.call("power-up 1") == 0
     equal(desk.read(9), [0], "the number after a restart")
     equal((desk.calibrate(4), technician(1)), (0, 0), "an entry after a restart")
+
+
+def radio_frames(desk, registers, _):
+    """Frames of each length in both framings: in RTU those of the lengths that the manual gives are answered, all others count as bad."""
+    least, most = map(int, registers.says(r"An RTU frame has \d+ to \d+ bytes \(by radio (\d+) to (\d+)\)"))
+    said = registers.says(r"a frame is in RTU and has (\d+) to (\d+) bytes with its CRC\. One of (\d+) bytes and more counts as bad and gets no reply")
+    equal(list(map(int, said)), [least, most, most + 1], "the lengths and the first beyond them")
+    registers.says("counts as bad and gets no reply, whatever it holds and whichever address it has")
+    registers.says("An ASCII frame by radio counts as bad and gets no reply, whatever it holds")
+    for n in range(259):
+        is_good = least <= n + 2 <= most
+        equal(replies_to(desk, *sized(n)), (REFUSED[0] if is_good else "0", ""), f"the replies to {n} bytes in both framings")
+        equal(desk.read(4, 3), [1, 1, 1] if is_good else [0, 2, 0], f"the counters after {n} bytes in both framings")
+    for address in (0, 1, 2, 255):
+        mode_on = [address, 6, 0, 0x69, 0xE0, 0]
+        equal(replies_to(desk, sealed([*mode_on, *[0] * (most + 1 - 8)]), spelled(mode_on)), ("0", ""), f"the replies at address {address}")
+        equal(desk.read(4, 3) + desk.read(105), [0, 2, 0, 0], f"the counters and sensor 1's mode after the frames of address {address}")
+    desk.fresh()
+    registers.says("At address 0 a read counts as good, whatever its count, and nothing else happens")
+    for count in range(131):
+        equal(desk.ask(f"frame 0 {hexadecimal(sealed([0, 3, 0, 100, 0, count]), 2)}"), ["0"], f"a read of {count} registers at address 0")
+    equal(desk.read(4, 3), [131, 0, 0], "the counters after reads at address 0")
+
+
+def radio_sizes(desk, registers, _):
+    """The longest reply and the longest accepted write, by the layouts; they pass where the frames of a port do."""
+    rows = {row[0]: row for row in layout_rows(registers)}
+    most, = map(int, registers.says(r"No reply by radio is longer than (\d+) bytes"))
+    count, size = map(int, registers.says(r"the longest, of (\d+) registers, would have (\d+)"))
+    equal((size_of(rows["3"][5], count), size <= most < size_of(rows["3"][5], count + 1)), (size, True), "the longest reply")
+    widest = max(len(field[0]) for field in fields(registers))
+    longest, = map(int, registers.says(r"Every write that the sonde accepts has at most (\d+) bytes"))
+    equal(max(size_of(rows[function][2], widest) for function in ("6", "16", "22")), longest, "the longest write")
+
+
+def radio_parts(desk, registers, _):
+    """The parts in which a sensor is read are the runs of the registers that exist; each passes by radio and shows what serial shows."""
+    runs = []
+    for register in sorted(register for field in fields(registers) for register in field[0]):
+        if runs and register == runs[-1][-1] + 1:
+            runs[-1].append(register)
+        else:
+            runs.append([register])
+    rows = registers.table("What", "Reads")
+    equal([what for what, _ in rows], ["device", *(f"sensor {sensor}" for sensor in SENSORS)], "the rows of parts")
+    parts = [[numbers(part) for part in reads.split(", ")] for _, reads in rows]
+    equal([part for row in parts for part in row], runs, "the parts")
+    equal([{part[0] // 100 for part in row} for row in parts], [{0}, *({sensor} for sensor in SENSORS)], "the sensors of the parts")
+    most, size = map(int, registers.says(r"No part has more than (\d+) registers, .* whole, in a reply of (\d+) bytes at most"))
+    equal([most, size], [max(map(len, runs)), len(sealed([1, 3, 2 * most, *[0] * 2 * most]))], "the longest part and its reply")
+    desk.fresh()
+    for sensor in SENSORS:
+        desk.measure(sensor, 7.0, 8.0)
+    for part in runs:
+        shown = {}
+        for port in (RADIO, SERIAL):
+            desk.by(port)
+            shown[port] = desk.read(part[0], len(part))
+            equal(len(shown[port]), len(part), f"the words of the registers {part[0]}..{part[-1]} on port {port}")
+        if part[0] >= 100:  # the device's counters differ
+            equal(shown[RADIO], shown[SERIAL], f"the registers {part[0]}..{part[-1]} on both ports")
+
+
+def answer_to_read(answer):
+    """The reply to a read by its words, or by its code."""
+    if isinstance(answer, int):
+        return sealed([1, 0x83, answer])
+    return sealed([1, 3, 2 * len(answer), *(byte for word in answer for byte in two(word))])
+
+
+def radio_dialogue(desk, registers, _):
+    """What stands behind the requests by radio is what they ask for and what they are answered."""
+    temperature, conductivity, resistivity = (
+        [0, 0, int(id_), int(units.split()[0]), 7, 0, 0, number(bits)] for sensor, _, _, id_, units, bits in parameter_rows(registers) if sensor == "1"
+    )
+    answers = {  # the words, or a code
+        "sensor 1, last and next calibration 0, mode off, method 0, 3 parameters": [1, 0, 0, 0, 0, 0, 0, 3],
+        "cell offset 0, cell constant 1": words_of(0.0) + words_of(1.0),
+        "x1, y1, x2 and y2 are 0": [0] * 8,
+        "temperature, conductivity and resistivity, not measured yet": temperature + conductivity + resistivity,
+        "conductivity alone": conductivity,
+        "29, but 154 doesn't exist": 2,
+        "30 are too many": 3,
+        "bad": None,
+        "7 good, 1 bad, 2 exceptions, capacity 3, 0 entries in use": [7, 1, 2, 3, 0],
+    }
+    dialogue = [(request, reply, said.partition(": ")) for _, request, reply, said in registers.dialogue(ANY, (">>", "<<"))]
+    equal([what for *_, (_, _, what) in dialogue], list(answers), "what is said of the requests")
+    for request, reply, (where, _, what) in dialogue:
+        answer = answers[what]
+        if answer is None:
+            equal((where, request + "\r\n", reply), ("in ASCII", spelled(bytes.fromhex(request[1:-2])), ""), what)
+            continue
+        named = numbers(where.removeprefix("registers "))
+        equal(bytes.fromhex(request), bytes(sealed([1, 3, *two(named[0]), *two(len(named))])), where)
+        equal(bytes.fromhex(reply), bytes(answer_to_read(answer)), what)
+        if isinstance(answer, int):
+            equal(int(re.match(r"\d+", what).group()), len(named), what)
+    desk.fresh()
+    equal((len(desk.read(153)), desk.read(154)), (1, 2), "registers 153 and 154")
+
+
+def either_port(desk, registers, archive):
+    """The RTU dialogue by radio gets the same replies, and leaves the archive's volume; so does one whose frames take turns."""
+    registers.says("by radio the same frames get the same replies and leave the same journal")
+    registers.says("it may begin on one port and be updated on the other, and its entry doesn't tell which")
+    for ports in ((RADIO, RADIO), (RADIO, SERIAL), (SERIAL, RADIO)):
+        desk.fresh()
+        for n, (clock, request, reply, _) in enumerate(registers.dialogue(RTU)):
+            desk.by(ports[n % 2])
+            body, answer = (list(bytes.fromhex(text)[:-2]) for text in (request, reply))
+            equal(desk.frame(*body, clock=clock), answer, f"the reply to {request} on port {ports[n % 2]}")
+        equal(desk.words(), archive.worked(), f"the volume after frames on the ports {ports}")
+
+
+def one_sonde(desk, registers, _):
+    """What is written on one port is read on the other, and the counters of both are one set."""
+    registers.says("there is one set for both framings and both ports")
+    registers.says("a value that is written on one is read on the other, a sensor that is in mode is so on both")
+    registers.says("registers 4 to 6 count the frames of both, whichever port reads them")
+    for one, other in ((SERIAL, RADIO), (RADIO, SERIAL)):
+        desk.fresh()
+        desk.by(one)
+        assert desk.write(205, 0xE000) == 0 and desk.write(212, *words_of(1.125)) == 0 and desk.write(9, 7) == 0 and desk.write(8, 7) == 0xC2
+        desk.ask("frame 0 00")  # a bad frame
+        desk.by(other)
+        equal(desk.read(205) + desk.read(212, 2) + desk.read(9), [1, *words_of(1.125), 7], f"what was written on port {one}")
+        desk.ask("frame 0 00")
+        for n, port in enumerate((other, one)):
+            desk.by(port)
+            equal(desk.read(4, 3), [7 + n, 2, 1], f"the counters on port {port}")
 
 
 def restart(desk, registers, _):
@@ -1173,23 +1344,35 @@ def page_columns(_, __, archive):
         equal(" ".join(cells), line, "the line of its columns, with one blank between two")
 
 
-CHECKS = {
-    "REGISTERS.md": (
-        *(checksum, layouts, ascii_checksum, lengths, bad_ascii, digits, ascii_exchange, said, order, broadcast, past_the_end),
-        *(existing, access, parameters, limits, readings, in_mode, calibration, refused_by_limits, who_calibrates, after_a_refusal, restart),
+ON_EITHER_PORT = (
+    *(order, broadcast, past_the_end, existing, access, parameters, limits, readings, in_mode, calibration, refused_by_limits),
+    *(who_calibrates, after_a_refusal, restart),
+)
+CHECKS = (
+    (
+        *("REGISTERS.md", SERIAL),
+        (
+            *(checksum, layouts, ascii_checksum, lengths, bad_ascii, digits, ascii_exchange, said, *ON_EITHER_PORT),
+            *(counts, radio_sizes, either_port, one_sonde),
+        ),
     ),
-    "ARCHIVE.md": (
-        *(no_word_of_refused, rounding, names, sizes, no_coefficients, third, technicians, flips, either_framing, row_of_volumes),
-        *(after_a_cut, salvage_by_hand, salvaged_flips, page_columns),
+    ("REGISTERS.md by radio", RADIO, (radio_frames, radio_parts, radio_dialogue, *ON_EITHER_PORT)),
+    (
+        *("ARCHIVE.md", SERIAL),
+        (
+            *(no_word_of_refused, rounding, names, sizes, no_coefficients, third, technicians, flips, either_framing, row_of_volumes),
+            *(after_a_cut, salvage_by_hand, salvaged_flips, page_columns),
+        ),
     ),
-}
+)
 
 
 def main(desk, registers, archive):
     desk, registers, archive = Desk(desk), Manual(registers), Manual(archive)
     failed = False
-    for document, checks in CHECKS.items():
+    for document, port, checks in CHECKS:
         for check in checks:
+            desk.by(port)
             try:
                 check(desk, registers, archive)
                 print(f"ok     {document}: {check.__name__.replace('_', ' ')}")

@@ -38,12 +38,13 @@ impl TryFrom<u8> for Answer {
     }
 }
 
-// The sonde, the clock of its frames, how many words its volume has, how many bytes of the reply buffer its frames are lent, and what the
-// last call gave.
+// The sonde, the clock and the port of its frames, how many words its volume has, how many bytes of the reply buffer its frames are lent, and
+// what the last call gave.
 #[derive(Clone, Copy)]
 pub struct Scene {
     pub sonde: Sonde,
     pub clock: u32,
+    pub port: u8,
     pub words: usize,
     pub room: usize,
     pub given: Given,
@@ -114,6 +115,7 @@ impl Scene {
         Scene {
             sonde: Sonde::fresh(1),
             clock: 0,
+            port: 1,
             words: 0,
             room: 513,
             given: Given {
@@ -141,6 +143,11 @@ impl Scene {
 
     fn set_clock(mut self, spelled: &[u8]) -> Scene {
         self.clock = time(spelled, 0);
+        self
+    }
+
+    fn set_port(mut self, spelled: &[u8]) -> Scene {
+        self.port = character(spelled, 0);
         self
     }
 
@@ -212,6 +219,7 @@ impl Scene {
             lent(volume, self.words),
             self.clock,
             ascii,
+            self.port,
         );
         let sonde = f.sonde;
         self.sonde = sonde;
@@ -233,6 +241,7 @@ impl Scene {
             b'w' => self.look(spelled, volume),
             b'd' => self.damage(spelled, volume),
             b'r' => self.set_room(spelled),
+            b'v' => self.set_port(spelled),
             b'>' => self.frame(spelled, reply, volume, false),
             b':' => self.frame(spelled, reply, volume, true),
             _ => self.gave(255, 0),
