@@ -26,7 +26,7 @@ pub data ListsApart : List Call → List Call → Type 0 where
 pub record SameEnd (x : State) (b : Model) (es : List Entry) (cs ds : List Call) : Type 0 where
   -- the numbers of the calls,
   pub given : numbers x cs ≡ numbers x ds
-  -- the sonde "save the counters": figures, modes, trials, raws and all else,
+  -- the sonde but for its counters: figures, modes, trials, raws and all else,
   pub sonde : uncounted (run x cs).sonde ≡ uncounted (run x ds).sonde
   -- the journal, every word of its volume,
   pub volume : (run x cs).volume ≡ (run x ds).volume

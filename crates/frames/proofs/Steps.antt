@@ -47,8 +47,8 @@ pub step_short : (h : Header) (body : List ℕ) (own : ℕ) (e : Device) (s : Se
 step_short h body own e s w Bad f l = lit≤ tt
 step_short h body own e s w Foreign f l = lit≤ tt
 step_short h body own e s w BroadcastRead f l = lit≤ tt
-step_short h body own e s w (Refused code) f l = (refusal_sized h body (byte_of code)).most
+step_short h body own e s w (Refused code) f l = (refusal_sized 254 (lit≤ tt) h body (byte_of code)).most
 step_short h body own e s w (Reading start count) f l =
     let r = register_of (start / 100) e s in
-    (read_sized own (shown_from r (start % 100) count) (rw (shown_length r (start % 100) count) f.most)).most
-step_short h body own e s w (Writing o x v) f l = (write_sized h body (code_of (written_by o e s x v)) l f.long).most
+    (read_sized 254 own 125 (shown_from r (start % 100) count) (rw (shown_length r (start % 100) count) f.most) (lit≤ tt)).most
+step_short h body own e s w (Writing o x v) f l = (write_sized 254 (lit≤ tt) h body (code_of (written_by o e s x v)) l f.long).most

@@ -142,9 +142,6 @@ unfolding request_of
 registers_aside m n function s e = rw e
 
 -- and one by function 3 is a read, or refused
-abbrev counted_by : Bool → Bool → Result Request Code → Result Request Code
-counted_by none more r = cond none (Err IllegalDataValue) (cond more (Err IllegalDataValue) r)
-
 abbrev pub IsRead : Result Request Code → Type 0
 IsRead (Err code) = Unit {0}
 IsRead (Ok (Read start count)) = Unit {0}
@@ -156,7 +153,7 @@ is_read registers function s e =
     rw e (go (eqb (length s) 6) (ltb (word_at s 4) 1) (ltb registers (word_at s 4)))
   where
     go : (six none more : Bool)
-        → IsRead (cond six (counted_by none more (Ok (Read (word_at s 2) (word_at s 4)))) (Err IllegalDataValue))
+        → IsRead (cond six (cond none (Err IllegalDataValue) (cond more (Err IllegalDataValue) (Ok (Read (word_at s 2) (word_at s 4))))) (Err IllegalDataValue))
     go false none more = tt
     go true true more = tt
     go true false true = tt

@@ -13,10 +13,14 @@ use Rattle.framing.specs.Framing.Carried.{Body}
 use Rattle.framing.proofs.RoundTrip.{Passes, frame_carries}
 use Rattle.replies.specs.Reply.{written_body, reply_of}
 
--- no bytes, or as many as a frame carries
-pub record Sized (b : List ℕ) : Type 0 where
+-- no bytes, or two to n
+pub record SizedTo (n : ℕ) (b : List ℕ) : Type 0 where
   pub least : (length b ≡ 0 → ⊥) → 2 ≤ length b
-  pub most : length b ≤ 254
+  pub most : length b ≤ n
+
+-- as many as a frame carries
+abbrev pub Sized : List ℕ → Type 0
+Sized = SizedTo 254
 
 -- a reply carries its body, by a port that carries such a frame
 pub reply_carries : (port : Port) (ascii : Bool) (b : List ℕ) → Bytes b → Sized b → Passes port ascii b → (length b ≡ 0 → ⊥)

@@ -18,7 +18,7 @@ use Rattle.service.specs.Frame.{carried_out, planned, entries_by, answer_of, lef
 use Rattle.service.specs.declared.Arrival.{Arrival}
 
 -- what is asked for leaves the volume with its entries appended
-planned_appends : (d : Sonde) (h : Header) (body w : List ℕ) (a : Arrival) (p : Plan) → (planned d h body w a p).volume ≡ appends_of 27 w (entries_by d w a p)
+pub planned_appends : (d : Sonde) (h : Header) (body w : List ℕ) (a : Arrival) (p : Plan) → (planned d h body w a p).volume ≡ appends_of 27 w (entries_by d w a p)
 unfolding carried_out
 planned_appends d h body w a Bad = refl
 planned_appends d h body w a Foreign = refl

@@ -2,7 +2,9 @@
 use mathlib.Core.Path.{◌≡◌, refl, sym, ◌∙◌}
 use mathlib.Core.Bool.{Bool, true, false, cond}
 use mathlib.Core.List.{List, []}
-use Prim.Native.Nat.{ℕ, ◌≤◌}
+use Prim.Native.Nat.{ℕ, ◌+◌, ◌*◌, ◌≤◌}
+use native.Mathlib.Omega.{arith}
+use lib.Dec.{lit≤}
 use lib.ListN.{length}
 use borrow.Author.Tests.{le-ltb}
 use Rattle.ports.specs.Ports.{port_of, port_by}
@@ -11,16 +13,15 @@ use Rattle.refusals.specs.Codes.{byte_of}
 use Rattle.words.specs.Bytes.{Bytes}
 use Rattle.words.proofs.Stores.{overlay-start}
 use Rattle.framing.specs.Framing.{Carried, body_of, room_in}
-use Rattle.framing.proofs.Carried.{carried_most}
 use Rattle.framing.proofs.RoundTrip.{serial_passes}
 use Rattle.modbus.specs.Request.{header_of}
 use Rattle.modbus.specs.declared.Header.{Header}
 use Rattle.replies.specs.Reply.{reply_of}
-use Rattle.replies.proofs.RoundTrip.{Sized, reply_carries}
+use Rattle.replies.proofs.RoundTrip.{SizedTo, Sized, reply_carries}
 use Rattle.commands.specs.Commands.{code_of}
 use Rattle.plans.specs.declared.Plan.{Plan}
 use Rattle.plans.specs.declared.Plan.TheVariants.{Bad, Foreign, BroadcastRead, Refused, Reading, Writing}
-use Rattle.plans.proofs.Plans.{Facts}
+use Rattle.plans.proofs.Plans.{FactsOf}
 use Rattle.state.specs.declared.Sonde.{Sonde}
 use Rattle.service.specs.Agrees.{agrees}
 use Rattle.service.specs.Reads.{device_of, device_in, register_at, shown_from, reading_body}
@@ -33,23 +34,25 @@ use Rattle.service.proofs.Registers.{shown_length}
 
 -- ---- the body of an answer
 
-planned_sized : (d : Sonde) (h : Header) (body w : List ℕ) (a : Arrival) (p : Plan) → Facts body p → length body ≤ 254 → Sized (planned d h body w a p).body
+-- where a read names m registers at most and a body may have n bytes
+pub planned_sized : (n m : ℕ) → 11 ≤ n → 3 + 2 * m ≤ n → (d : Sonde) (h : Header) (body w : List ℕ) (a : Arrival) (p : Plan) → FactsOf m body p
+    → SizedTo n (planned d h body w a p).body
 unfolding carried_out reading_body
-planned_sized d h body w a Bad f l = none_sized
-planned_sized d h body w a Foreign f l = none_sized
-planned_sized d h body w a BroadcastRead f l = none_sized
-planned_sized d h body w a (Refused code) f l = refusal_sized h body (byte_of code)
-planned_sized d h body w a (Reading start count) f l =
+planned_sized n m k l d h body w a Bad f = none_sized n
+planned_sized n m k l d h body w a Foreign f = none_sized n
+planned_sized n m k l d h body w a BroadcastRead f = none_sized n
+planned_sized n m k l d h body w a (Refused code) f = refusal_sized n (omega arith) h body (byte_of code)
+planned_sized n m k l d h body w a (Reading start count) f =
     let r = register_at d (device_in d w a) in
-    read_sized d.address (shown_from r start count) (rw (shown_length r start count) f.most)
-planned_sized d h body w a (Writing s x v) f l = write_sized h body (code_of (write_at d w a s x v)) l f.long
+    read_sized n d.address m (shown_from r start count) (rw (shown_length r start count) f.most) l
+planned_sized n m k l d h body w a (Writing s x v) f = write_sized n (omega arith) h body (code_of (write_at d w a s x v)) (omega (arith, f.short)) f.long
 
 -- an answer's body is none, or fits a frame of either framing
 pub answer_sized : (d : Sonde) (frame w : List ℕ) (a : Arrival) → Sized (answer_to d frame w a).body
 unfolding answer_of
 answer_sized d frame w a =
     let c = carried frame a in
-    planned_sized d (header_of (body_of c)) (body_of c) w a (plan_to d.address frame a) (frame_facts d.address (port_in a) c) (carried_most (port_in a) a.ascii frame)
+    planned_sized 254 125 (lit≤ tt) (lit≤ tt) d (header_of (body_of c)) (body_of c) w a (plan_to d.address frame a) (frame_facts d.address (port_in a) c)
 
 -- ---- the answer doesn't ask for the framing
 
@@ -88,7 +91,7 @@ same_left bytes x p q reply reply' s h =
       );
     }
 
-number_zero : (x : Answer) (p : Bool) (reply : List ℕ) → (left x p reply).number ≡ 0
+pub number_zero : (x : Answer) (p : Bool) (reply : List ℕ) → (left x p reply).number ≡ 0
 unfolding left
 number_zero x p reply = refl
 

@@ -2,18 +2,13 @@
 use mathlib.Core.Path.{◌≡◌, refl, sym, ap, subst, ◌∙◌}
 use mathlib.Core.Bool.{Bool, true, false, cond, ◌&&◌}
 use mathlib.Core.List.{List, []}
-use Prim.Native.Nat.{ℕ, zero, suc, ◌*◌, ◌≤◌}
+use Prim.Native.Nat.{ℕ, zero, suc, ◌≤◌}
 use native.Mathlib.Omega.{arith}
 use lib.Dec.{eqb, leb, lit≤}
-use lib.ListN.{length, take}
-use lib.Seq.{length-take-le}
+use lib.ListN.{length}
 use borrow.Author.Tests.{ne_eqb, leb-true, leb-false, le-leb}
-use Rattle.std.specs.Prelude.{Option, Some, None, ltb, Float}
-use Rattle.refusals.specs.Codes.{byte_of}
-use Rattle.refusals.specs.declared.codes.Code.{Code}
+use Rattle.std.specs.Prelude.{ltb, Float}
 use Rattle.floats.proofs.Bools.{choose}
-use Rattle.words.specs.Bytes.{bytes_of}
-use Rattle.words.proofs.Bytes.{bytes_length}
 use Rattle.ports.specs.Ports.{port_of, port_by, limits}
 use Rattle.ports.specs.declared.Port.{Port}
 use Rattle.ports.specs.declared.Port.TheVariants.{Serial, Radio}
@@ -25,11 +20,10 @@ use Rattle.framing.specs.Framing.Carried.{Bad as BadFrame, Body}
 use Rattle.modbus.specs.Request.{header_of}
 use Rattle.modbus.specs.declared.Header.{Header}
 use Rattle.modbus.specs.declared.Value.{Value}
-use Rattle.replies.specs.Reply.{read_body, written_body, exception_body, reply_of}
+use Rattle.replies.specs.Reply.{reply_of}
 use Rattle.journal.specs.Stores.{begin_words, appends_of}
 use Rattle.fields.specs.declared.Field.{Field}
 use Rattle.registers.specs.Registers.{device_register}
-use Rattle.commands.specs.Commands.{code_of}
 use Rattle.commands.specs.declared.Written.{Written}
 use Rattle.plans.specs.declared.Plan.{Plan}
 use Rattle.plans.specs.declared.Plan.TheVariants.{Bad, Foreign, BroadcastRead, Refused, Reading, Writing}
@@ -39,15 +33,17 @@ use Rattle.state.specs.Sonde.{measured_at, sonde, sensor_at, setup_at, with_sens
 use Rattle.state.specs.declared.Counters.{Counters}
 use Rattle.state.specs.declared.Sonde.{Sonde}
 use Rattle.service.specs.Agrees.{openings, agrees}
-use Rattle.service.specs.Reads.{device_of, device_in, register_at, shown_from, reading_body}
-use Rattle.service.specs.Frame.{port_in, carried, arrival_number, plan_for, plan_to, sent, refusal_body, write_body, write_at, sonde_after, carried_out, planned, entries_by, answer_of, answer_to, left, frame_of, cut_of, Outcome, outcome, refused_by, Answer}
+use Rattle.service.specs.Reads.{device_of, device_in}
+use Rattle.service.specs.Frame.{port_in, carried, arrival_number, plan_for, plan_to, write_at, sonde_after, carried_out, planned, entries_by, answer_of, answer_to, left, frame_of, cut_of, Outcome, outcome, refused_by, Answer}
 use Rattle.service.specs.Ports.{uncounted, PortsApart, SameBooks, PortsAlike, RadioReplies, NoPortFirst}
 use Rattle.service.specs.Calls.{Begun, begun, made, begin_of, measure_of, raws_finite}
 use Rattle.service.specs.declared.Arrival.{Arrival}
 use Rattle.service.specs.declared.SondeMade.{SondeMade}
+use Rattle.replies.proofs.RoundTrip.{SizedTo}
+use Rattle.service.proofs.Cuts.{planned_appends}
+use Rattle.service.proofs.Framings.{planned_sized, number_zero}
 use Rattle.service.proofs.Owners.{device_write, sensor_write}
 use Rattle.service.proofs.Parts.{frame_facts}
-use Rattle.service.proofs.Registers.{shown_length}
 
 -- ---- what a frame writes doesn't depend on the port
 
@@ -104,62 +100,66 @@ recount d e u =
     let sensors : d.sensors ≡ e.sensors = ap (λ (x : Sonde). x.sensors) u in
     rw (address, technician, sensors)
 
-module _ (d : Sonde) (c : Counters) (w : List ℕ) (a b : Arrival) (time : a.clock ≡ b.clock) where
-  abbrev e : Sonde
-  e = recounted d c
+-- what a plan leaves of the sonde, by what it writes
+abbrev sonde_by : List ℕ → Sonde → Arrival → Plan → Sonde
+sonde_by w d a Bad = d
+sonde_by w d a Foreign = d
+sonde_by w d a BroadcastRead = d
+sonde_by w d a (Refused code) = d
+sonde_by w d a (Reading start count) = d
+sonde_by w d a (Writing o f v) = sonde_after d o (write_at d w a o f v)
 
-  agrees_same : agrees e w ≡ agrees d w
+module _ (w : List ℕ) (d : Sonde) (a : Arrival) where
+  sonde_left : (h : Header) (body : List ℕ) (p : Plan) → (planned d h body w a p).sonde ≡ sonde_by w d a (write_in_plan p)
+  unfolding carried_out
+  sonde_left h body Bad = refl
+  sonde_left h body Foreign = refl
+  sonde_left h body BroadcastRead = refl
+  sonde_left h body (Refused code) = refl
+  sonde_left h body (Reading start count) = refl
+  sonde_left h body (Writing o f v) = refl
+
+  entries_left : (p : Plan) → entries_by d w a p ≡ entries_by d w a (write_in_plan p)
+  entries_left Bad = refl
+  entries_left Foreign = refl
+  entries_left BroadcastRead = refl
+  entries_left (Refused code) = refl
+  entries_left (Reading start count) = refl
+  entries_left (Writing o f v) = refl
+
+  volume_left : (h : Header) (body : List ℕ) (p : Plan) → (planned d h body w a p).volume ≡ appends_of 27 w (entries_by d w a (write_in_plan p))
+  volume_left h body p = planned_appends d h body w a p ∙ ap (appends_of 27 w) (entries_left p)
+
+-- counting is forgotten with the counters
+counted_aside : (x : Answer) (ascii : Bool) (reply : List ℕ) → uncounted (left x ascii reply).sonde ≡ uncounted x.sonde
+unfolding uncounted left counted_by
+counted_aside x ascii reply = refl
+
+left_volume : (x : Answer) (ascii : Bool) (reply : List ℕ) → (left x ascii reply).volume ≡ x.volume
+unfolding left
+left_volume x ascii reply = refl
+
+module _ (d : Sonde) (c : Counters) (w : List ℕ) (a b : Arrival) (time : a.clock ≡ b.clock) where
+  abbrev twin : Sonde
+  twin = recounted d c
+
+  agrees_same : agrees twin w ≡ agrees d w
   unfolding agrees openings valid_sonde setup_at sensor_at
   agrees_same = refl
 
   -- the write of a field
-  write_same : (o : ℕ) (f : Field) (v : Value) → Located f.words o f → write_at e w b o f v ≡ write_at d w a o f v
+  write_same : (o : ℕ) (f : Field) (v : Value) → Located f.words o f → write_at twin w b o f v ≡ write_at d w a o f v
   unfolding device_register device_of sensor_at
-  write_same zero f v l = rw (device_write (device_in e w b) (sensor_at e 0) f v, device_write (device_in d w a) (sensor_at d 0) f v, l.device refl)
+  write_same zero f v l = rw (device_write (device_in twin w b) (sensor_at twin 0) f v, device_write (device_in d w a) (sensor_at d 0) f v, l.device refl)
   write_same (suc s) f v l =
       rw (
-        sensor_write (device_in e w b) (sensor_at e (suc s)) f v (suc s) (omega arith),
+        sensor_write (device_in twin w b) (sensor_at twin (suc s)) f v (suc s) (omega arith),
         sensor_write (device_in d w a) (sensor_at d (suc s)) f v (suc s) (omega arith),
         time,
       )
 
-  -- what a plan without answers and counters leaves
-  abbrev sonde_by : Sonde → Arrival → Plan → Sonde
-  sonde_by x y Bad = x
-  sonde_by x y Foreign = x
-  sonde_by x y BroadcastRead = x
-  sonde_by x y (Refused code) = x
-  sonde_by x y (Reading start count) = x
-  sonde_by x y (Writing o f v) = sonde_after x o (write_at x w y o f v)
-
-  sonde_left : (x : Sonde) (y : Arrival) (h : Header) (body : List ℕ) (p : Plan) → (planned x h body w y p).sonde ≡ sonde_by x y (write_in_plan p)
-  unfolding carried_out
-  sonde_left x y h body Bad = refl
-  sonde_left x y h body Foreign = refl
-  sonde_left x y h body BroadcastRead = refl
-  sonde_left x y h body (Refused code) = refl
-  sonde_left x y h body (Reading start count) = refl
-  sonde_left x y h body (Writing o f v) = refl
-
-  entries_left : (x : Sonde) (y : Arrival) (p : Plan) → entries_by x w y p ≡ entries_by x w y (write_in_plan p)
-  entries_left x y Bad = refl
-  entries_left x y Foreign = refl
-  entries_left x y BroadcastRead = refl
-  entries_left x y (Refused code) = refl
-  entries_left x y (Reading start count) = refl
-  entries_left x y (Writing o f v) = refl
-
-  volume_left : (x : Sonde) (y : Arrival) (h : Header) (body : List ℕ) (p : Plan) → (planned x h body w y p).volume ≡ appends_of 27 w (entries_by x w y (write_in_plan p))
-  unfolding carried_out
-  volume_left x y h body Bad = refl
-  volume_left x y h body Foreign = refl
-  volume_left x y h body BroadcastRead = refl
-  volume_left x y h body (Refused code) = refl
-  volume_left x y h body (Reading start count) = refl
-  volume_left x y h body (Writing o f v) = refl
-
-  -- is the same by either arrival, the counters aside
-  sonde_same : (body : List ℕ) (p : Plan) → Facts body p → uncounted (sonde_by e b (write_in_plan p)) ≡ uncounted (sonde_by d a (write_in_plan p))
+  -- what a plan leaves is the same by either arrival, the counters aside
+  sonde_same : (body : List ℕ) (p : Plan) → Facts body p → uncounted (sonde_by w twin b (write_in_plan p)) ≡ uncounted (sonde_by w d a (write_in_plan p))
   unfolding uncounted sonde_after with_technician with_setup with_sensor setup_at sensor_at
   sonde_same body Bad l = refl
   sonde_same body Foreign l = refl
@@ -168,7 +168,7 @@ module _ (d : Sonde) (c : Counters) (w : List ℕ) (a b : Arrival) (time : a.clo
   sonde_same body (Reading start count) l = refl
   sonde_same body (Writing o f v) l = ap (λ (x : Written). uncounted (sonde_after d o x)) (write_same o f v l.located)
 
-  entries_same : (body : List ℕ) (p : Plan) → Facts body p → entries_by e w b (write_in_plan p) ≡ entries_by d w a (write_in_plan p)
+  entries_same : (body : List ℕ) (p : Plan) → Facts body p → entries_by twin w b (write_in_plan p) ≡ entries_by d w a (write_in_plan p)
   entries_same body Bad l = refl
   entries_same body Foreign l = refl
   entries_same body BroadcastRead l = refl
@@ -176,77 +176,62 @@ module _ (d : Sonde) (c : Counters) (w : List ℕ) (a b : Arrival) (time : a.clo
   entries_same body (Reading start count) l = refl
   entries_same body (Writing o f v) l = rw (write_same o f v l.located)
 
--- ---- the frame
+  -- ---- the frame
 
--- counting is forgotten with the counters
-counted_aside : (x : Answer) (ascii : Bool) (reply : List ℕ) → uncounted (left x ascii reply).sonde ≡ uncounted x.sonde
-unfolding uncounted left counted_by
-counted_aside x ascii reply = refl
+  module _ (frame reply : List ℕ) (numbers : arrival_number a (length reply) ≡ arrival_number b (length reply))
+      (plans : write_in_plan (plan_to d.address frame a) ≡ write_in_plan (plan_to d.address frame b)) where
+    abbrev p : Plan
+    p = plan_to d.address frame a
 
-left_number : (x : Answer) (ascii : Bool) (reply : List ℕ) → (left x ascii reply).number ≡ 0
-unfolding left
-left_number x ascii reply = refl
+    abbrev q : Plan
+    q = plan_to d.address frame b
 
-left_volume : (x : Answer) (ascii : Bool) (reply : List ℕ) → (left x ascii reply).volume ≡ x.volume
-unfolding left
-left_volume x ascii reply = refl
+    facts : Facts (body_of (carried frame b)) q
+    facts = frame_facts d.address (port_in b) (carried frame b)
 
-module _ (d : Sonde) (c : Counters) (frame reply w : List ℕ) (a b : Arrival) (time : a.clock ≡ b.clock)
-    (numbers : arrival_number a (length reply) ≡ arrival_number b (length reply))
-    (plans : write_in_plan (plan_to d.address frame a) ≡ write_in_plan (plan_to d.address frame b)) where
-  abbrev twin : Sonde
-  twin = recounted d c
+    answers_same : SameBooks (left (answer_to d frame w a) a.ascii reply) (left (answer_to twin frame w b) b.ascii reply)
+    unfolding answer_of uncounted
+    answers_same =
+        let x = answer_to d frame w a in
+        let y = answer_to twin frame w b in
+        let s = body_of (carried frame a) in
+        let t = body_of (carried frame b) in
+        record {
+          number = number_zero x a.ascii reply ∙ sym (number_zero y b.ascii reply);
+          sonde = counted_aside x a.ascii reply
+              ∙ ap uncounted (sonde_left w d a (header_of s) s p ∙ ap (sonde_by w d a) plans)
+              ∙ sym (sonde_same t q facts)
+              ∙ ap uncounted (sym (sonde_left w twin b (header_of t) t q))
+              ∙ sym (counted_aside y b.ascii reply);
+          volume = left_volume x a.ascii reply
+              ∙ volume_left w d a (header_of s) s p
+              ∙ ap (appends_of 27 w) (ap (entries_by d w a) plans ∙ sym (entries_same t q facts))
+              ∙ sym (volume_left w twin b (header_of t) t q)
+              ∙ sym (left_volume y b.ascii reply);
+        }
 
-  answers_same : SameBooks (left (answer_to d frame w a) a.ascii reply) (left (answer_to twin frame w b) b.ascii reply)
-  unfolding answer_of uncounted
-  answers_same =
-      let p = plan_to d.address frame a in
-      let q = plan_to d.address frame b in
-      let f = frame_facts d.address (port_in b) (carried frame b) in
-      let x = answer_to d frame w a in
-      let y = answer_to twin frame w b in
-      let hx = header_of (body_of (carried frame a)) in
-      let hy = header_of (body_of (carried frame b)) in
-      record {
-        number = left_number x a.ascii reply ∙ sym (left_number y b.ascii reply);
-        sonde = counted_aside x a.ascii reply
-            ∙ ap uncounted (sonde_left d c w a b time d a hx (body_of (carried frame a)) p ∙ ap (sonde_by d c w a b time d a) plans)
-            ∙ sym (sonde_same d c w a b time (body_of (carried frame b)) q f)
-            ∙ ap uncounted (sym (sonde_left d c w a b time twin b hy (body_of (carried frame b)) q))
-            ∙ sym (counted_aside y b.ascii reply);
-        volume = left_volume x a.ascii reply
-            ∙ volume_left d c w a b time d a hx (body_of (carried frame a)) p
-            ∙ ap (appends_of 27 w) (ap (entries_by d w a) plans ∙ sym (entries_same d c w a b time (body_of (carried frame b)) q f))
-            ∙ sym (volume_left d c w a b time twin b hy (body_of (carried frame b)) q)
-            ∙ sym (left_volume y b.ascii reply);
-      }
+    refused_same : (n : ℕ) → SameBooks (outcome (refused_by n d) reply w) (outcome (refused_by n twin) reply w)
+    unfolding uncounted
+    refused_same n = record { number = refl; sonde = refl; volume = refl }
 
-  refused_same : (n : ℕ) → SameBooks (outcome (refused_by n d) reply w) (outcome (refused_by n twin) reply w)
-  unfolding uncounted
-  refused_same n = record { number = refl; sonde = refl; volume = refl }
+    frame_same : SameBooks (frame_of d frame reply w a) (frame_of twin frame reply w b)
+    unfolding frame_of
+    frame_same = rw (← numbers, agrees_same) (go (eqb (arrival_number a (length reply)) 0) (agrees d w))
+      where
+        go : (taken fit : Bool)
+            → SameBooks
+            (cond taken (cond fit (left (answer_to d frame w a) a.ascii reply) (outcome (refused_by 4 d) reply w)) (outcome (refused_by (arrival_number a (length reply)) d) reply w))
+            (cond taken (cond fit (left (answer_to twin frame w b) b.ascii reply) (outcome (refused_by 4 twin) reply w)) (outcome (refused_by (arrival_number a (length reply)) twin) reply w))
+        go false fit = refused_same (arrival_number a (length reply))
+        go true false = refused_same 4
+        go true true = answers_same
 
-  frame_same : SameBooks (frame_of d frame reply w a) (frame_of twin frame reply w b)
-  unfolding frame_of
-  frame_same = rw (← numbers, agrees_same d c w a b time) (go (eqb (arrival_number a (length reply)) 0) (agrees d w))
-    where
-      go : (taken fit : Bool)
-          → SameBooks
-          (cond taken (cond fit (left (answer_to d frame w a) a.ascii reply) (outcome (refused_by 4 d) reply w)) (outcome (refused_by (arrival_number a (length reply)) d) reply w))
-          (cond taken (cond fit (left (answer_to twin frame w b) b.ascii reply) (outcome (refused_by 4 twin) reply w)) (outcome (refused_by (arrival_number a (length reply)) twin) reply w))
-      go false fit = refused_same (arrival_number a (length reply))
-      go true false = refused_same 4
-      go true true = answers_same
-
-  cut_same : (n : ℕ) → cut_of d frame reply w a n ≡ cut_of twin frame reply w b n
-  unfolding cut_of
-  cut_same n =
-      let p = plan_to d.address frame a in
-      let q = plan_to d.address frame b in
-      let f = frame_facts d.address (port_in b) (carried frame b) in
-      let entries : entries_by d w a p ≡ entries_by twin w b q =
-      entries_left d c w a b time d a p ∙ ap (entries_by d w a) plans ∙ sym (entries_same d c w a b time (body_of (carried frame b)) q f)
-      ∙ sym (entries_left d c w a b time twin b q) in
-      rw (frame_same.number, entries)
+    cut_same : (n : ℕ) → cut_of d frame reply w a n ≡ cut_of twin frame reply w b n
+    unfolding cut_of
+    cut_same n =
+        let entries : entries_by d w a p ≡ entries_by twin w b q =
+        entries_left w d a p ∙ ap (entries_by d w a) plans ∙ sym (entries_same (body_of (carried frame b)) q facts) ∙ sym (entries_left w twin b q) in
+        rw (frame_same.number, entries)
 
 -- ---- two arrivals that do the same
 
@@ -274,60 +259,24 @@ module _ (d e : Sonde) (u : uncounted d ≡ uncounted e) (frame reply w : List �
   pub frame_alike : SameBooks (frame_of d frame reply w a) (frame_of e frame reply w b)
   frame_alike =
       subst (λ (x : Sonde). SameBooks (frame_of d frame reply w a) (frame_of x frame reply w b)) (sym (recount d e u))
-      (frame_same d e.counters frame reply w a b t.time t.numbers t.plans)
+      (frame_same d e.counters w a b t.time frame reply t.numbers t.plans)
 
   pub cut_alike : (n : ℕ) → cut_of d frame reply w a n ≡ cut_of e frame reply w b n
   cut_alike n =
       subst (λ (x : Sonde). cut_of d frame reply w a n ≡ cut_of x frame reply w b n) (sym (recount d e u))
-      (cut_same d e.counters frame reply w a b t.time t.numbers t.plans n)
+      (cut_same d e.counters w a b t.time frame reply t.numbers t.plans n)
 
 pub ports_alike : PortsAlike
 ports_alike d e frame reply w a b u p = frame_alike d e u frame reply w a b (apart_task d.address frame reply a b p)
 
 -- ---- the length of a reply by radio
 
-abbrev Short : List ℕ → Type 0
-Short b = length b ≤ 62
-
-module _ (h : Header) (body : List ℕ) where
-  refusal_short : (code : ℕ) → Short (refusal_body h code)
-  unfolding sent exception_body
-  refusal_short code = choose Short (eqb h.address 0) [] (exception_body h.address h.function code) (λ e. lit≤ tt) (λ e. lit≤ tt)
-
-  written_short : 6 ≤ length body → length body ≤ 11 → Short (sent h (written_body h.function body))
-  unfolding sent written_body
-  written_short l m =
-      choose Short (eqb h.address 0) [] (written_body h.function body) (λ e. lit≤ tt)
-      (λ e. choose Short (eqb h.function 16) (take 6 body) body (λ f. omega (arith, length-take-le 6 body l)) (λ f. omega arith))
-
-  write_short : 6 ≤ length body → length body ≤ 11 → (code : Option Code) → Short (write_body h body code)
-  unfolding write_body
-  write_short l m None = written_short l m
-  write_short l m (Some code) = refusal_short (byte_of code)
-
-read_short : (address : ℕ) (words : List ℕ) → length words ≤ 29 → Short (read_body address words)
-unfolding read_body
-read_short address words l =
-    let n : length (bytes_of words) ≡ 2 * length words = bytes_length words in
-    omega arith
-
-planned_short : (d : Sonde) (h : Header) (body w : List ℕ) (a : Arrival) (p : Plan) → FactsOf 29 body p → Short (planned d h body w a p).body
-unfolding carried_out reading_body
-planned_short d h body w a Bad f = lit≤ tt
-planned_short d h body w a Foreign f = lit≤ tt
-planned_short d h body w a BroadcastRead f = lit≤ tt
-planned_short d h body w a (Refused code) f = refusal_short h body (byte_of code)
-planned_short d h body w a (Reading start count) f =
-    let r = register_at d (device_in d w a) in
-    read_short d.address (shown_from r start count) (rw (shown_length r start count) f.most)
-planned_short d h body w a (Writing o x v) f = write_short h body f.long f.short (code_of (write_at d w a o x v))
-
 facts_on : (own : ℕ) (port : Port) (x : Carried) → FactsOf (limits port).registers (body_of x) (plan_for own port x)
 facts_on own port BadFrame = tt
 facts_on own port (Body body) = port_facts own port (header_of body) body
 
 -- the frame of such a body
-framed_short : (b : List ℕ) → Short b → length (reply_of false b) ≤ 64
+framed_short : (b : List ℕ) → length b ≤ 62 → length (reply_of false b) ≤ 64
 unfolding reply_of framed_in
 framed_short b s = choose (λ (l : List ℕ). length l ≤ 64) (eqb (length b) 0) [] _ (λ e. lit≤ tt) (λ e. omega (arith, framed-length b))
 
@@ -342,15 +291,15 @@ module _ (d : Sonde) (frame w : List ℕ) (a : Arrival) (radio : port_in a ≡ R
   unfolding carried_in
   ascii_bad e = rw (e, radio)
 
-  body_short : Short (answer_to d frame w a).body
+  body_sized : SizedTo 62 (answer_to d frame w a).body
   unfolding answer_of
-  body_short =
-      planned_short d (header_of (body_of (carried frame a))) (body_of (carried frame a)) w a (plan_to d.address frame a)
+  body_sized =
+      planned_sized 62 29 (lit≤ tt) (lit≤ tt) d (header_of (body_of (carried frame a))) (body_of (carried frame a)) w a (plan_to d.address frame a)
       (subst (λ (q : Port). FactsOf (limits q).registers (body_of (carried frame a)) (plan_to d.address frame a)) radio (facts_on d.address (port_in a) (carried frame a)))
 
   reply_short : (ascii : Bool) → a.ascii ≡ ascii → length (reply_of ascii (answer_to d frame w a).body) ≤ 64
   reply_short true q = bad_silent d w a true (carried frame a) (ascii_bad q)
-  reply_short false q = framed_short _ body_short
+  reply_short false q = framed_short _ body_sized.most
 
 -- a frame that names the radio is judged by it
 radio_in : (a : Arrival) → a.port ≡ 2 → port_in a ≡ Radio
